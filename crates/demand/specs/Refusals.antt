@@ -1,0 +1,58 @@
+-- Refusals 1, 2, 3 and 5 (01, "Numbered refusals"): the lowest number that applies, 0 where none does.
+--   tableThen t h rest   == the number of the table's own refusal, 1 to 3, else rest: what the later tests say
+--   tableRefusal t h     == the table's own
+--   askedRefusal t h l   == that of a question about the interval of l ticks
+--   InRange ts hs        each figure of the table lies in its range: what no refusal of 1 to 3 comes to
+use mathlib.Core.Bool.{Bool, _||_}
+use mathlib.Core.List.{List}
+use Prim.Native.Nat.{ℕ, _%_, _≤_}
+use lib.Dec.{eqb, ltb}
+use lib.ListN.{length}
+use Rattle.demand.specs.Limits.{figureMost, tasksMost, handlersMost, ticksMost}
+use Rattle.demand.specs.Rows.{Row, tasksOf, handlersOf, some, Each}
+use Rattle.demand.specs.Tests.{refuse}
+
+-- 1: a list has an odd count of numbers
+abbrev pub odd : List ℕ → Bool
+odd s = eqb (length s % 2) 1
+
+-- 2: no task, over 64 tasks or over 16 handlers
+abbrev pub miscounted : List Row → List Row → Bool
+miscounted ts hs = eqb (length ts) 0 || ltb tasksMost (length ts) || ltb handlersMost (length hs)
+
+-- 3: a cost or period is 0 or above 1,000,000
+abbrev pub outside : ℕ → Bool
+outside x = eqb x 0 || ltb figureMost x
+
+abbrev pub rowOutside : Row → Bool
+rowOutside r = outside (r .cost) || outside (r .period)
+
+unfoldable pub tableThen : List ℕ → List ℕ → ℕ → ℕ
+tableThen t h rest =
+    refuse 1 (odd t || odd h)
+    (refuse 2 (miscounted (tasksOf t) (handlersOf h))
+    (refuse 3 (some rowOutside (tasksOf t) || some rowOutside (handlersOf h))
+    rest))
+
+unfoldable pub tableRefusal : List ℕ → List ℕ → ℕ
+tableRefusal t h = tableThen t h 0
+
+-- 5: an interval above 1,000,000,000 is asked about
+unfoldable pub askedRefusal : List ℕ → List ℕ → ℕ → ℕ
+askedRefusal t h l = tableThen t h (refuse 5 (ltb ticksMost l) 0)
+
+-- a figure from 1 to 1,000,000
+pub record Fair (x : ℕ) : Type 0 where
+  pub least : 1 ≤ x
+  pub most : x ≤ figureMost
+
+pub record FairRow (r : Row) : Type 0 where
+  pub cost : Fair (r .cost)
+  pub period : Fair (r .period)
+
+pub record InRange (ts hs : List Row) : Type 0 where
+  pub tasks : Each FairRow ts
+  pub handlers : Each FairRow hs
+  pub some-task : 1 ≤ length ts
+  pub tasks-most : length ts ≤ tasksMost
+  pub handlers-most : length hs ≤ handlersMost
