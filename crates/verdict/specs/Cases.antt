@@ -1,0 +1,52 @@
+-- Cases 1 to 12 (01, "Sums done by hand"): one list, one statement.
+--   Case              == a table and the figures of its sheet
+--   cases             == the twelve
+--   CaseHolds c       the verdict's promise holds of these figures, and whatever it allows has them
+--   EveryCase cs      each case of the list holds
+use mathlib.Core.List.{List, [], _∷_}
+use mathlib.Core.Path.{_≡_}
+use Prim.Native.Nat.{ℕ}
+use Rattle.verdict.specs.Promise.{Figures, Word, figures, Says, VerdictSays}
+use Rattle.verdict.specs.Promise.Word.{fits, misses, refused}
+use Rattle.verdict.specs.declared.Verdict.{Verdict}
+
+pub record Case : Type 0 where
+  pub tasks : List ℕ
+  pub handlers : List ℕ
+  pub sheet : Figures
+
+abbrev yes : ℕ → Figures
+yes load = record { word = fits; code = 0; interval = 0; handler = 0; task = 0; load = load }
+
+abbrev no : ℕ → ℕ → ℕ → ℕ → Figures
+no interval handler task load = record { word = misses; code = 0; interval = interval; handler = handler; task = task; load = load }
+
+abbrev refusal : ℕ → Figures
+refusal code = record { word = refused; code = code; interval = 0; handler = 0; task = 0; load = 0 }
+
+abbrev case : List ℕ → List ℕ → Figures → Case
+case t h g = record { tasks = t; handlers = h; sheet = g }
+
+unfoldable pub cases : List Case
+cases =
+    case (1 ∷ 10 ∷ 1 ∷ 10 ∷ 1 ∷ 10 ∷ 1 ∷ 10 ∷ 1 ∷ 10 ∷ 1 ∷ 10 ∷ 1 ∷ 10 ∷ 1 ∷ 10 ∷ 1 ∷ 10 ∷ 1 ∷ 10 ∷ []) [] (yes 1000000)
+    ∷ case (2 ∷ 4 ∷ []) (1 ∷ 2 ∷ []) (yes 1000000)
+    ∷ case (1 ∷ 4 ∷ []) (2 ∷ 3 ∷ []) (yes 916667)
+    ∷ case (2 ∷ 4 ∷ []) (2 ∷ 3 ∷ []) (no 4 3 2 1166667)
+    ∷ case (1 ∷ 2 ∷ []) (2 ∷ 10 ∷ []) (no 2 2 1 700000)
+    ∷ case (1 ∷ 3 ∷ []) (2 ∷ 10 ∷ []) (yes 533333)
+    ∷ case (2 ∷ 4 ∷ []) (1 ∷ 4 ∷ 1 ∷ 4 ∷ []) (yes 1000000)
+    ∷ case (1 ∷ 1 ∷ []) (1 ∷ 1000000 ∷ []) (no 1 1 1 1000001)
+    ∷ case (2 ∷ 5 ∷ 4 ∷ 8 ∷ []) (1 ∷ 4 ∷ []) (no 10 3 8 1150000)
+    ∷ case (3 ∷ 2 ∷ []) [] (no 2 0 3 1500000)
+    ∷ case (1 ∷ 1000 ∷ 1 ∷ 999999 ∷ []) [] (yes 1001)
+    ∷ case (1 ∷ 1001 ∷ 1 ∷ 1000000 ∷ []) [] (refusal 4)
+    ∷ []
+
+pub record CaseHolds (c : Case) : Type 0 where
+  pub holds : Says (c .tasks) (c .handlers) (c .sheet)
+  pub only : (r : Verdict) → VerdictSays (c .tasks) (c .handlers) r → figures r ≡ c .sheet
+
+abbrev pub EveryCase : List Case → Type 0
+EveryCase [] = Unit
+EveryCase (c ∷ cs) = CaseHolds c × EveryCase cs

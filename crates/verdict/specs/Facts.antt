@@ -1,0 +1,43 @@
+-- The facts that end the search (01, "The verdict"), as statements. H and W are a readable table's own.
+--   OverfullFails ts hs   if W is above H, some L up to H fails
+--   PeriodEnds ts hs      if W is at most H and no L up to H fails, none fails at all
+--   ShortOnly ts hs       if W is below H, every failing L has L times (H - W) below E times H
+--   searchEnd ts hs       == the smallest end that the facts allow: no length above it need be looked at
+use mathlib.Core.List.{List}
+use Prim.Native.Nat.{ℕ, zero, suc, _-_, _*_, _/_, _≤_, _<_, min}
+use lib.Dec.{ltb, eqb}
+use Rattle.demand.specs.Demands.{Passes, Fails}
+use Rattle.demand.specs.Rows.{Row}
+use Rattle.demand.specs.Tests.{pick}
+use Rattle.verdict.specs.Loads.{whole, costs}
+use Rattle.verdict.specs.Multiples.{period}
+use Rattle.verdict.specs.Promise.{AlwaysPasses}
+
+pub record FailsBy (ts hs : List Row) (end : ℕ) : Type 0 where
+  pub interval : ℕ
+  pub positive : 1 ≤ interval
+  pub within : interval ≤ end
+  pub fails : Fails ts hs interval
+
+abbrev pub PassesTo : List Row → List Row → ℕ → Type 0
+PassesTo ts hs end = (l : ℕ) → 1 ≤ l → l ≤ end → Passes ts hs l
+
+abbrev pub OverfullFails : List Row → List Row → Type 0
+OverfullFails ts hs = period ts hs < whole ts hs → FailsBy ts hs (period ts hs)
+
+abbrev pub PeriodEnds : List Row → List Row → Type 0
+PeriodEnds ts hs = whole ts hs ≤ period ts hs → PassesTo ts hs (period ts hs) → AlwaysPasses ts hs
+
+abbrev pub ShortOnly : List Row → List Row → Type 0
+ShortOnly ts hs = whole ts hs < period ts hs → (l : ℕ) → Fails ts hs l → l * (period ts hs - whole ts hs) < costs hs * period ts hs
+
+-- With W at most H: 0 where handlers cost nothing, H where W is H, else the greatest L that the last fact still admits, if below H.
+unfoldable pub endBy : ℕ → ℕ → ℕ → ℕ
+endBy H W E =
+    pick (ltb H W) H
+    (pick (eqb E 0) 0
+    (pick (eqb W H) H
+    (min H ((E * H - 1) / (H - W)))))
+
+unfoldable pub searchEnd : List Row → List Row → ℕ
+searchEnd ts hs = endBy (period ts hs) (whole ts hs) (costs hs)

@@ -1,0 +1,7 @@
+pub mod Multiples
+pub mod Loads
+pub mod Promise
+pub mod Facts
+pub mod Lengths
+pub mod Lightening
+pub mod Cases
