@@ -29,8 +29,8 @@ called-until hs t x pos l u = total-same (calledBy x) (calledBy (suc t)) hs (eac
   where
     row : (r : Row) → 0 < r .period → x ≤ suc (t / r .period) * r .period → calledBy x r ≡ calledBy (suc t) r
     row r p f = ap (λ (n : ℕ). r .cost * n)
-      (ceil-until (r .period) t x p l f
-      ∙ sym (ceil-until (r .period) t (suc t) p (omega arith) (omega (arith, lt-div-mul-add {a = t} p))))
+        (ceil-until (r .period) t x p l f
+        ∙ sym (ceil-until (r .period) t (suc t) p (omega arith) (omega (arith, lt-div-mul-add {a = t} p))))
 
 -- So f jumps to t + j, where no handler arrives strictly between.
 pub handled-jump : (hs : List Row) (t j : ℕ) → Positive hs → Until hs t (t + j) → handled hs (t + j) ≡ min (handled hs t + j) (called hs (suc t))

@@ -3,4 +3,10 @@ pub mod Sums
 pub mod Taken
 pub mod Demands
 pub mod Between
+pub mod Walks
 pub mod Lighten
+pub mod Slices
+pub mod Refused
+pub mod Sizes
+pub mod Signs
+pub mod Answered

@@ -4,4 +4,5 @@ pub mod Rows
 pub mod Demands
 pub mod Refusals
 pub mod Answers
+pub mod Walk
 pub mod Lighter

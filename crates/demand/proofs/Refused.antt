@@ -1,0 +1,120 @@
+-- Laws of the refusals: what each number says, and what a table without one is.
+use mathlib.Core.Bool.{Bool, true, false, _||_}
+use mathlib.Core.List.{List, [], _∷_}
+use mathlib.Core.Path.{_≡_, refl, ap, sym, _∙_}
+use native.Mathlib.Omega.{arith}
+use borrow.Author.Tests.{ltb-false, eqb-false, le-ltb, lt-ltb}
+use Prim.Native.Nat.{ℕ, zero, suc, _≤_, _<_}
+use lib.Dec.{ltb, eqb}
+use lib.ListN.{length}
+use Rattle.demand.specs.Limits.{figureMost, tasksMost, handlersMost, ticksMost}
+use Rattle.demand.specs.Refusals.{odd, miscounted, outside, rowOutside, tableThen, tableRefusal, askedRefusal, Fair, FairRow, InRange}
+use Rattle.demand.specs.Rows.{Row, tasksOf, handlersOf, some, Each}
+use Rattle.demand.specs.Tests.{pick, refuse}
+
+-- Neither of two tests holds.
+neither : (a b : Bool) → (a || b) ≡ false → (a ≡ false) × (b ≡ false)
+neither true b e = absurd (let z : _≡_ {A = ℕ} 0 1 = cc in omega arith)
+neither false b e = (refl, e)
+
+-- A test that has a number did not hold, where the answer is 0.
+not-refused : (k : ℕ) (b : Bool) (rest : ℕ) → refuse (suc k) b rest ≡ 0 → (b ≡ false) × (rest ≡ 0)
+not-refused k true rest e = absurd (omega arith)
+not-refused k false rest e = (refl, e)
+
+fair-figure : (x : ℕ) → outside x ≡ false → Fair x
+fair-figure x e =
+    let n = neither (eqb x 0) (ltb figureMost x) e in
+    let some : x ≡ 0 → ⊥ = eqb-false x 0 (n .0) in
+    record { least = omega arith; most = ltb-false figureMost x (n .1) }
+
+pub fair-rows : (rs : List Row) → some rowOutside rs ≡ false → Each FairRow rs
+unfolding some
+fair-rows [] e = tt
+fair-rows (r ∷ rs) e =
+    let here = neither (rowOutside r) (some rowOutside rs) e in
+    let row = neither (outside (r .cost)) (outside (r .period)) (here .0) in
+    (record { cost = fair-figure (r .cost) (row .0); period = fair-figure (r .period) (row .1) }, fair-rows rs (here .1))
+
+-- ---- the number of each answer
+
+module _ (t h : List ℕ) where
+  pub table-1 : (odd t || odd h) ≡ true → 1 ≡ tableRefusal t h
+  unfolding tableRefusal tableThen
+  table-1 counts = rw counts
+
+  pub table-2 : (odd t || odd h) ≡ false → miscounted (tasksOf t) (handlersOf h) ≡ true → 2 ≡ tableRefusal t h
+  unfolding tableRefusal tableThen
+  table-2 counts rows = rw (counts, rows)
+
+  pub table-3 : (odd t || odd h) ≡ false → miscounted (tasksOf t) (handlersOf h) ≡ false
+      → (some rowOutside (tasksOf t) || some rowOutside (handlersOf h)) ≡ true → 3 ≡ tableRefusal t h
+  unfolding tableRefusal tableThen
+  table-3 counts rows figures = rw (counts, rows, figures)
+
+  pub table-0 : (odd t || odd h) ≡ false → miscounted (tasksOf t) (handlersOf h) ≡ false
+      → (some rowOutside (tasksOf t) || some rowOutside (handlersOf h)) ≡ false → 0 ≡ tableRefusal t h
+  unfolding tableRefusal tableThen
+  table-0 counts rows figures = rw (counts, rows, figures)
+
+-- Nothing is refused: every figure is in its range, and the later tests say 0 too.
+pub table-in-range : (t h : List ℕ) (rest : ℕ) → tableThen t h rest ≡ 0 → InRange (tasksOf t) (handlersOf h) × (rest ≡ 0)
+unfolding tableThen
+table-in-range t h rest e =
+    let counts = not-refused 0 (odd t || odd h) _ e in
+    let rows = not-refused 1 (miscounted (tasksOf t) (handlersOf h)) _ (counts .1) in
+    let figures = not-refused 2 (some rowOutside (tasksOf t) || some rowOutside (handlersOf h)) rest (rows .1) in
+    let tasks = neither (eqb (length (tasksOf t)) 0 || ltb tasksMost (length (tasksOf t))) (ltb handlersMost (length (handlersOf h))) (rows .0) in
+    let few = neither (eqb (length (tasksOf t)) 0) (ltb tasksMost (length (tasksOf t))) (tasks .0) in
+    let fair = neither (some rowOutside (tasksOf t)) (some rowOutside (handlersOf h)) (figures .0) in
+    let one : length (tasksOf t) ≡ 0 → ⊥ = eqb-false (length (tasksOf t)) 0 (few .0) in (
+      record {
+        tasks = fair-rows (tasksOf t) (fair .0);
+        handlers = fair-rows (handlersOf h) (fair .1);
+        some-task = omega arith;
+        tasks-most = ltb-false tasksMost (length (tasksOf t)) (few .1);
+        handlers-most = ltb-false handlersMost (length (handlersOf h)) (tasks .1);
+      },
+      figures .1,
+    )
+
+-- The later tests speak exactly where the table has no refusal of its own.
+pub table-then-zero : (t h : List ℕ) (rest : ℕ) → tableRefusal t h ≡ 0 → tableThen t h rest ≡ rest
+unfolding tableThen tableRefusal
+table-then-zero t h rest e =
+    let counts = not-refused 0 (odd t || odd h) _ e in
+    let rows = not-refused 1 (miscounted (tasksOf t) (handlersOf h)) _ (counts .1) in
+    let figures = not-refused 2 (some rowOutside (tasksOf t) || some rowOutside (handlersOf h)) 0 (rows .1) in
+    rw (counts .0, rows .0, figures .0)
+
+-- Two chains of tests that agree where this one does not hold.
+refuse-same : (k : ℕ) (b : Bool) (x y : ℕ) → (b ≡ false → x ≡ y) → refuse k b x ≡ refuse k b y
+refuse-same k true x y e = refl
+refuse-same k false x y e = e refl
+
+pub table-then-refused : (t h : List ℕ) (rest : ℕ) → (tableRefusal t h ≡ 0 → ⊥) → tableThen t h rest ≡ tableRefusal t h
+unfolding tableThen tableRefusal
+table-then-refused t h rest n =
+    refuse-same 1 (odd t || odd h) _ _ (λ counts.
+    refuse-same 2 (miscounted (tasksOf t) (handlersOf h)) _ _ (λ rows.
+    refuse-same 3 (some rowOutside (tasksOf t) || some rowOutside (handlersOf h)) rest 0 (λ figures. absurd (n (rw (counts, rows, figures))))))
+
+-- A question that is answered: the table is in range, and so is the interval.
+pub asked-in-range : (t h : List ℕ) (l : ℕ) → askedRefusal t h l ≡ 0 → InRange (tasksOf t) (handlersOf h) × (l ≤ ticksMost)
+unfolding askedRefusal
+asked-in-range t h l e =
+    let table = table-in-range t h (refuse 5 (ltb ticksMost l) 0) e in
+    (table .0, ltb-false ticksMost l (not-refused 4 (ltb ticksMost l) 0 (table .1) .0))
+
+-- And the reverse, from the table's own refusal.
+pub asked-zero : (t h : List ℕ) (l : ℕ) → tableRefusal t h ≡ 0 → l ≤ ticksMost → askedRefusal t h l ≡ 0
+unfolding askedRefusal
+asked-zero t h l e m = table-then-zero t h (refuse 5 (ltb ticksMost l) 0) e ∙ simp (le-ltb ticksMost l m)
+
+pub asked-5 : (t h : List ℕ) (l : ℕ) → tableRefusal t h ≡ 0 → ticksMost < l → askedRefusal t h l ≡ 5
+unfolding askedRefusal
+asked-5 t h l e m = table-then-zero t h (refuse 5 (ltb ticksMost l) 0) e ∙ simp (lt-ltb ticksMost l m)
+
+pub asked-table : (t h : List ℕ) (l : ℕ) → (tableRefusal t h ≡ 0 → ⊥) → askedRefusal t h l ≡ tableRefusal t h
+unfolding askedRefusal
+asked-table t h l n = table-then-refused t h (refuse 5 (ltb ticksMost l) 0) n

@@ -1,0 +1,89 @@
+use mathlib.Core.Path.{_≡_, ap, _∙_}
+use native.Mathlib.Omega.{arith}
+use Prim.Native.Nat.{_≤_, _-_}
+use Rattle.demand.specs.Demands.{handled}
+use Rattle.demand.specs.Rows.{handlersOf}
+use Rattle.demand.proofs.Demands.{handled-le}
+use Rattle.demand.proofs.Sizes.{fair-positive, small-less}
+use Rattle.demand.proofs.Walks.{next-above, next-within, walk-on}
+use Rattle.demand.proofs.readable.handled_on.Statement.{statement}
+use Rattle.demand.proofs.readable.handled_on.Tie as tie
+use Rattle.demand.proofs.readable.handled_on.Reads as reads
+use Rattle.demand.proofs.readable.handled_on.Lts as lts
+use Rattle.demand.proofs.readable.lesser.Reads as lesser-reads
+use Rattle.demand.proofs.rows.called.Reads as called-reads
+use Rattle.demand.proofs.rows.next_multiple.Reads as next-multiple-reads
+
+abbrev Inv-loop : tie.InvT-loop
+Inv-loop handlers l f m at₀ taken₀ at taken = (at ≤ m) × (taken ≡ handled (handlersOf handlers) at)
+
+abbrev μ-loop : tie.MeasureT-loop
+μ-loop handlers l f m at₀ taken₀ at taken = m - at
+
+loop-holds : tie.Need-loop-holds Inv-loop μ-loop
+loop-holds c = c .before .pre .1
+
+add-called : tie.Need-add-called Inv-loop μ-loop
+add-called c = omega (arith, c .before .before .before .pre .0 .ticks)
+
+called-requires : tie.Need-called-requires Inv-loop μ-loop
+called-requires c κs = small-less _ _ _ (omega arith) (c .before .before .before .pre .0)
+
+next-multiple-requires : tie.Need-next-multiple-requires Inv-loop μ-loop
+next-multiple-requires c κs = small-less _ _ _ (omega arith) (c .before .before .before .before .pre .0)
+
+sub-lesser : tie.Need-sub-lesser Inv-loop μ-loop
+sub-lesser c =
+    let start = c .before .before .before .before .before in
+    let hs = handlersOf (start .args .handlers .now) in
+    let above = next-above hs _ _ (fair-positive hs (start .pre .0 .rows)) (c .before .before .loop-test .taken) in
+    omega (arith, c .next-multiple .ensures, above)
+
+add-lesser : tie.Need-add-lesser Inv-loop μ-loop
+add-lesser c =
+    let start = c .before .before .before .before .before in
+    let turn = c .before .before .before .loop in
+    let hs = handlersOf (start .args .handlers .now) in
+    omega (arith, start .pre .0 .ticks, turn .inv .1, handled-le hs (turn .at), c .next-multiple .ensures, next-within hs (turn .at) (start .args .m))
+
+lesser-requires : tie.Need-lesser-requires Inv-loop μ-loop
+lesser-requires c κs = tt
+
+loop-less : tie.Need-loop-less Inv-loop μ-loop
+loop-less c =
+    let start = c .before .before .before .before .before .before in
+    let hs = handlersOf (start .args .handlers .now) in
+    let above = next-above hs _ _ (fair-positive hs (start .pre .0 .rows)) (c .before .before .before .loop-test .taken) in
+    omega (arith, c .before .next-multiple .ensures, above)
+
+loop-again : tie.Need-loop-again Inv-loop μ-loop
+loop-again c =
+    let start = c .before .before .before .before .before .before in
+    let turn = c .before .before .before .before .loop in
+    let hs = handlersOf (start .args .handlers .now) in (
+      omega (arith, c .before .next-multiple .ensures, next-within hs (turn .at) (start .args .m)),
+      c .lesser .ensures
+          ∙ walk-on hs _ _ _ _ _ (fair-positive hs (start .pre .0 .rows)) (c .before .before .before .loop-test .taken) (turn .inv .1) (c .before .next-multiple .ensures) (c .before .before .called .ensures),
+    )
+
+returns : tie.Need-returns Inv-loop μ-loop
+returns c =
+    let turn = c .before .loop in
+    turn .inv .1 ∙ ap (handled (handlersOf (c .before .before .before .args .handlers .now))) (omega (arith, turn .inv .0, c .loop-test .left))
+
+pub handled-on-spec : {M : Type 1} → statement M
+handled-on-spec =
+    tie.close
+    (tie.spec
+    Inv-loop
+    μ-loop
+    loop-holds
+    add-called
+    called-requires
+    next-multiple-requires
+    sub-lesser
+    add-lesser
+    lesser-requires
+    loop-less
+    loop-again
+    returns)

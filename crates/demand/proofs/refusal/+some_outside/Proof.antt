@@ -1,0 +1,73 @@
+use mathlib.Core.Path.{_≡_, sym, _∙_}
+use lib.ListN.{length}
+use native.Mathlib.Omega.{arith}
+use Rattle.demand.specs.Refusals.{rowOutside}
+use Rattle.demand.proofs.Slices.{rest-length, some-short, some-head}
+use Prim.Native.Nat.{ℕ, _<_}
+use borrow.Fn.Kinds.{In}
+use borrow.Fn.PlainCycle.{Measures, is, falls, and}
+use Rattle.demand.proofs.refusal.some_outside.Reads as some-outside
+use Rattle.demand.proofs.refusal.some_outside.Kinds as some-outside-kinds
+use Rattle.demand.proofs.refusal.+some_outside.Lts-some_outside as some-outside-lts
+use Rattle.demand.proofs.refusal.outside.Reads as outside-reads
+use Rattle.demand.proofs.rows.head.Reads as head-reads
+use Rattle.demand.proofs.refusal.+some_outside.{statement}
+use Rattle.demand.proofs.refusal.+some_outside.Tie.{close}
+
+abbrev μ-some-outside : Measures 1 some-outside-kinds.ps ℕ
+μ-some-outside κs a = length (a .0 .now)
+
+abbrev some-outside-at : ℕ → In 1 some-outside-kinds.ps
+some-outside-at t =
+    and 1 some-outside-kinds.ps (is 1 some-outside-kinds.ps μ-some-outside t) some-outside.Pre
+
+abbrev some-outside-below : ℕ → In 1 some-outside-kinds.ps
+some-outside-below t =
+    and
+    1
+    some-outside-kinds.ps
+    (falls 1 some-outside-kinds.ps _<_ μ-some-outside t)
+    some-outside.Pre
+
+some-outside-returns : (t : ℕ) → some-outside-lts.Need-returns (head-reads.Asked, head-reads.Learnt, some-outside-below t, some-outside.Post, outside-reads.Asked, outside-reads.Learnt) (some-outside-at t) some-outside.Post
+some-outside-returns t c = sym (some-short _ (c .if1 .taken) rowOutside)
+
+some-outside-head-requires : (t : ℕ) → some-outside-lts.Need-head-requires (head-reads.Asked, head-reads.Learnt, some-outside-below t, some-outside.Post, outside-reads.Asked, outside-reads.Learnt) (some-outside-at t) some-outside.Post
+some-outside-head-requires t c κs = omega arith
+
+some-outside-sub-some-outside : (t : ℕ) → some-outside-lts.Need-sub-some-outside (head-reads.Asked, head-reads.Learnt, some-outside-below t, some-outside.Post, outside-reads.Asked, outside-reads.Learnt) (some-outside-at t) some-outside.Post
+some-outside-sub-some-outside t c = omega arith
+
+some-outside-part-some-outside-start : (t : ℕ) → some-outside-lts.Need-part-some-outside-start (head-reads.Asked, head-reads.Learnt, some-outside-below t, some-outside.Post, outside-reads.Asked, outside-reads.Learnt) (some-outside-at t) some-outside.Post
+some-outside-part-some-outside-start t c = omega arith
+
+some-outside-part-some-outside-end : (t : ℕ) → some-outside-lts.Need-part-some-outside-end (head-reads.Asked, head-reads.Learnt, some-outside-below t, some-outside.Post, outside-reads.Asked, outside-reads.Learnt) (some-outside-at t) some-outside.Post
+some-outside-part-some-outside-end t c = omega arith
+
+some-outside-some-outside-requires : (t : ℕ) → some-outside-lts.Need-some-outside-requires (head-reads.Asked, head-reads.Learnt, some-outside-below t, some-outside.Post, outside-reads.Asked, outside-reads.Learnt) (some-outside-at t) some-outside.Post
+some-outside-some-outside-requires t c κs = let n = rest-length (c .before .before .before .before .args .s .now) in (omega arith, tt)
+
+some-outside-outside-requires : (t : ℕ) → some-outside-lts.Need-outside-requires (head-reads.Asked, head-reads.Learnt, some-outside-below t, some-outside.Post, outside-reads.Asked, outside-reads.Learnt) (some-outside-at t) some-outside.Post
+some-outside-outside-requires t c κs = tt
+
+some-outside-outside-requires-2 : (t : ℕ) → some-outside-lts.Need-outside-requires-2 (head-reads.Asked, head-reads.Learnt, some-outside-below t, some-outside.Post, outside-reads.Asked, outside-reads.Learnt) (some-outside-at t) some-outside.Post
+some-outside-outside-requires-2 t c κs = tt
+
+some-outside-returns-2 : (t : ℕ) → some-outside-lts.Need-returns-2 (head-reads.Asked, head-reads.Learnt, some-outside-below t, some-outside.Post, outside-reads.Asked, outside-reads.Learnt) (some-outside-at t) some-outside.Post
+some-outside-returns-2 t c =
+    let y = c .before .before in
+    rw (c .before .outside .ensures, c .outside2 .ensures) (some-head _ _ (y .before .before .head .ensures) rowOutside _ (y .some-outside .ensures))
+
+pub +some-outside-spec : {M : Type 1} → statement M
++some-outside-spec = close μ-some-outside λ t. some-outside-lts.spec (head-reads.Asked, head-reads.Learnt, some-outside-below t, some-outside.Post, outside-reads.Asked, outside-reads.Learnt)
+    (some-outside-at t)
+    some-outside.Post
+    (some-outside-returns t)
+    (some-outside-head-requires t)
+    (some-outside-sub-some-outside t)
+    (some-outside-part-some-outside-start t)
+    (some-outside-part-some-outside-end t)
+    (some-outside-some-outside-requires t)
+    (some-outside-outside-requires t)
+    (some-outside-outside-requires-2 t)
+    (some-outside-returns-2 t)

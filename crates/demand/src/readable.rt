@@ -1,0 +1,55 @@
+// Calls for the crates above on a table that has been found in range, so that a search tests its rows once and not at every length.
+ghost use mathlib.Core.Path.{_≡_};
+ghost use Prim.Native.Nat.{_≤_, min};
+ghost use Rattle.demand.specs.Demands.{handled, due};
+ghost use Rattle.demand.specs.Refusals.{askedRefusal};
+ghost use Rattle.demand.specs.Rows.{tasksOf, handlersOf};
+ghost use Rattle.demand.specs.Walk.{nextMultiple, Small};
+use crate::rows;
+
+// D at l.
+pub fn due(tasks: &[u32], handlers: &[u32], l: u64) -> u64
+    requires { ⌜ askedRefusal (now tasks) (now handlers) l ≡ 0 ⌝ }
+    ensures { λ r. ⌜ r ≡ due (tasksOf (now (tasks .entry))) l ⌝ }
+{
+    rows::due(tasks, l)
+}
+
+// The first multiple of a task's period above l, or top where that comes first.
+pub fn next_length(tasks: &[u32], handlers: &[u32], l: u64, top: u64) -> u64
+    requires { ⌜ askedRefusal (now tasks) (now handlers) l ≡ 0 ⌝ }
+    ensures { λ r. ⌜ r ≡ nextMultiple (tasksOf (now (tasks .entry))) l top ⌝ }
+{
+    rows::next_multiple(tasks, l, top)
+}
+
+// f at m, from f at l: on from one handler arrival to the next.
+pub fn handled(tasks: &[u32], handlers: &[u32], l: u64, f: u64, m: u64) -> u64
+    requires { ⌜ askedRefusal (now tasks) (now handlers) m ≡ 0 ⌝ }
+    requires { ⌜ (l ≤ m) × (f ≡ handled (handlersOf (now handlers)) l) ⌝ }
+    ensures { λ r. ⌜ r ≡ handled (handlersOf (now (handlers .entry))) m ⌝ }
+{
+    handled_on(handlers, l, f, m)
+}
+
+fn handled_on(handlers: &[u32], l: u64, f: u64, m: u64) -> u64
+    requires { ⌜ Small (handlersOf (now handlers)) m ⌝ }
+    requires { ⌜ (l ≤ m) × (f ≡ handled (handlersOf (now handlers)) l) ⌝ }
+    ensures { λ r. ⌜ r ≡ handled (handlersOf (now (handlers .entry))) m ⌝ }
+{
+    let mut at = l;
+    let mut taken = f;
+    while at < m {
+        let work = rows::called(handlers, at + 1);
+        let next = rows::next_multiple(handlers, at, m);
+        taken = lesser(taken + (next - at), work);
+        at = next;
+    }
+    taken
+}
+
+fn lesser(a: u64, b: u64) -> u64
+    ensures { λ r. ⌜ r ≡ min a b ⌝ }
+{
+    if a < b { a } else { b }
+}
