@@ -2,11 +2,11 @@
 use mathlib.Core.List.{List, [], _∷_}
 use mathlib.Core.Logic.{_⊎_, inl, inr}
 use mathlib.Core.Path.{_≡_, refl, ap, sym, _∙_}
-use native.Mathlib.Nat.{mul-zero, mul-le-mul-left, mul-add, zero-div, eq-or-lt-of-le}
+use native.Mathlib.Nat.{mul-zero, mul-le-mul-left, mul-add, div-eq-of-lt, eq-or-lt-of-le}
 use native.Mathlib.Omega.{arith}
 use Prim.Native.Nat.{ℕ, zero, suc, _+_, _-_, _*_, _/_, _≤_, _<_, min, max}
 use Rattle.demand.specs.Demands.{ceil, calledBy, dueBy, called, taken, handled, due, Passes, Fails}
-use Rattle.demand.specs.Rows.{Row, deadlineOf, total, Each, Positive}
+use Rattle.demand.specs.Rows.{Row, deadlineOf, total, Each, Positive, Valid}
 use Rattle.demand.proofs.Divide.{jobs, jobs-plain, div-mono, div-sub, ceil-mono, ceil-zero, ceil-sub, le-or-lt}
 use Rattle.demand.proofs.Sums.{each-map, each-row, total-le, total-sub, total-zero}
 use Rattle.demand.proofs.Taken.{taken-zero, taken-next, taken-le, taken-step, taken-up, taken-gain, taken-grows, taken-le-called, taken-sub, taken-at-most, taken-attained, Attained}
@@ -99,9 +99,9 @@ handled-attained hs l = taken-attained (called hs) (called-zero hs) (λ m. calle
 
 -- ---- D: the work of tasks that is due
 
-pub due-zero : (ts : List Row) → due ts 0 ≡ 0
+pub due-zero : (ts : List Row) → Valid ts → due ts 0 ≡ 0
 unfolding due
-due-zero ts = total-zero (dueBy 0) ts (each-row (λ r. ap (λ (n : ℕ). r .cost * n) (zero-div (r .period)) ∙ mul-zero (r .cost)) ts)
+due-zero ts v = total-zero (dueBy 0) ts (each-map (λ r f. ap (λ (n : ℕ). r .cost * n) (div-eq-of-lt (omega (arith, f .some))) ∙ mul-zero (r .cost)) ts v)
 
 pub due-mono : (ts : List Row) {x y : ℕ} → x ≤ y → due ts x ≤ due ts y
 unfolding due
@@ -116,8 +116,8 @@ due-sub ts pos z x = total-sub (dueBy (z + x)) (calledBy z) (dueBy x) ts (each-m
 
 -- ---- lengths that pass
 
-pub passes-zero : (ts hs : List Row) → Passes ts hs 0
-passes-zero ts hs = omega (arith, due-zero ts, handled-zero hs)
+pub passes-zero : (ts hs : List Row) → Valid ts → Passes ts hs 0
+passes-zero ts hs v = omega (arith, due-zero ts v, handled-zero hs)
 
 pub passes-or-fails : (ts hs : List Row) (l : ℕ) → Passes ts hs l ⊎ Fails ts hs l
 passes-or-fails ts hs l = le-or-lt (handled hs l + due ts l) l

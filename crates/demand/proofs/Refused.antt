@@ -18,7 +18,7 @@ neither true b e = absurd (let z : _≡_ {A = ℕ} 0 1 = cc in omega arith)
 neither false b e = (refl, e)
 
 -- A test that has a number did not hold, where the answer is 0.
-not-refused : (k : ℕ) (b : Bool) (rest : ℕ) → refuse (suc k) b rest ≡ 0 → (b ≡ false) × (rest ≡ 0)
+pub not-refused : (k : ℕ) (b : Bool) (rest : ℕ) → refuse (suc k) b rest ≡ 0 → (b ≡ false) × (rest ≡ 0)
 not-refused k true rest e = absurd (omega arith)
 not-refused k false rest e = (refl, e)
 

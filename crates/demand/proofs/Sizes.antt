@@ -8,7 +8,7 @@ use lib.ListN.{length}
 use Rattle.demand.specs.Demands.{calledBy, dueBy, called, due}
 use Rattle.demand.specs.Limits.{ticksMost}
 use Rattle.demand.specs.Refusals.{askedRefusal, FairRow}
-use Rattle.demand.specs.Rows.{Row, tasksOf, handlersOf, Each, Positive}
+use Rattle.demand.specs.Rows.{Row, tasksOf, handlersOf, Each, Positive, Valid}
 use Rattle.demand.specs.Walk.{Small}
 use Rattle.demand.proofs.Divide.{ceil-le}
 use Rattle.demand.proofs.Refused.{asked-in-range}
@@ -16,6 +16,9 @@ use Rattle.demand.proofs.Sums.{each-map, total-most}
 
 pub fair-positive : (rs : List Row) → Each FairRow rs → Positive rs
 fair-positive rs f = each-map (λ r g. g .period .least) rs f
+
+pub fair-valid : (rs : List Row) → Each FairRow rs → Valid rs
+fair-valid rs f = each-map (λ r g. record { some = g .period .least; fits = omega arith }) rs f
 
 pub small-less : (rs : List Row) (l m : ℕ) → l ≤ m → Small rs m → Small rs l
 small-less rs l m h s = record { rows = s .rows; count = s .count; ticks = omega (arith, s .ticks) }

@@ -4,7 +4,7 @@ use mathlib.Core.Path.{_≡_, refl}
 use native.Mathlib.Omega.{arith}
 use Prim.Native.Nat.{ℕ, _+_, _*_, _≤_}
 use lib.ListN.{length}
-use Rattle.demand.specs.Rows.{Row, total, Each}
+use Rattle.demand.specs.Rows.{Row, total, Each, Positive, Valid}
 
 pub each-map : {P Q : Row → Type 0} → ((r : Row) → P r → Q r) → (rs : List Row) → Each P rs → Each Q rs
 each-map f [] e = tt
@@ -17,6 +17,9 @@ each-both f (r ∷ rs) p q = (f r (p .0) (q .0), each-both f rs (p .1) (q .1))
 pub each-row : {Q : Row → Type 0} → ((r : Row) → Q r) → (rs : List Row) → Each Q rs
 each-row f [] = tt
 each-row f (r ∷ rs) = (f r, each-row f rs)
+
+pub valid-positive : (ts : List Row) → Valid ts → Positive ts
+valid-positive ts v = each-map (λ r s. omega (arith, s .some, s .fits)) ts v
 
 -- No more of each row: no more in all.
 pub total-le : (g k : Row → ℕ) (rs : List Row) → Each (λ r. g r ≤ k r) rs → total g rs ≤ total k rs

@@ -7,9 +7,10 @@
 --   some test rs             == the test holds of a row of rs
 --   Each P rs                P holds of every row of rs
 --   Positive rs              every period is at least 1
+--   Valid ts                 every deadline is from 1 to its period
 use mathlib.Core.Bool.{Bool, false, _||_}
 use mathlib.Core.List.{List, [], _∷_}
-use Prim.Native.Nat.{ℕ, _+_, _<_}
+use Prim.Native.Nat.{ℕ, _+_, _≤_, _<_}
 
 pub record Row : Type 0 where
   pub cost : ℕ
@@ -44,3 +45,10 @@ Each P (r ∷ rs) = P r × Each P rs
 
 abbrev pub Positive : List Row → Type 0
 Positive rs = Each (λ r. 0 < r .period) rs
+
+pub record Sound (r : Row) : Type 0 where
+  pub some : 0 < deadlineOf r
+  pub fits : deadlineOf r ≤ r .period
+
+abbrev pub Valid : List Row → Type 0
+Valid ts = Each Sound ts

@@ -1,0 +1,160 @@
+-- Cases 1 to 12 (specs/Cases), by one computed test of a sheet and one computation over the list.
+--   same ps           == the two figures of each pair are the same
+--   short ts hs n     == the ticks that all lengths up to n lack in sum: 0 where each of them passes
+--   pairs w t h g     == the pairs that must be the same for figures g with the word w to be those of table t, h
+--   holds c           == the test of a case
+--   allHold cs        == the test of each case
+--   Same ps           what same ps comes to, as equations
+use mathlib.Core.Bool.{Bool, true, false, _&&_}
+use mathlib.Core.List.{List, [], _∷_}
+use mathlib.Core.Logic.{_⊎_, inl, inr}
+use mathlib.Core.Path.{_≡_, refl}
+use native.Mathlib.Omega.{arith}
+use borrow.Author.Tests.{eqb-true}
+use lib.Dec.{eqb}
+use Prim.Native.Nat.{ℕ, zero, suc, _+_, _-_, _≤_, _<_}
+use Rattle.demand.specs.Demands.{called, grow, taken, handled, due, Passes}
+use Rattle.demand.specs.Refusals.{tableThen}
+use Rattle.demand.specs.Rows.{Row, rowsOf, tasksOf, handlersOf, total, some}
+use Rattle.demand.proofs.Divide.{le-or-lt}
+use Rattle.verdict.specs.Cases.{Case, cases, CaseHolds, EveryCase}
+use Rattle.verdict.specs.Facts.{PassesTo, endBy, searchEnd}
+use Rattle.verdict.specs.Loads.{work, whole, costs, nearest, load}
+use Rattle.verdict.specs.Multiples.{euclid, gcd, lcm, lcmFrom, period}
+use Rattle.verdict.specs.Promise.{Word, Figures, figures, verdictRefusal, SaysBy, Says, VerdictSays}
+use Rattle.verdict.specs.Promise.Word.{fits, misses, refused}
+use Rattle.verdict.proofs.Ends.{end-enough}
+use Rattle.verdict.proofs.Once.{says-unique}
+use Rattle.verdict.proofs.Readable.{readable-in-range}
+
+-- ---- pairs of figures
+
+unfoldable pub same : List (ℕ × ℕ) → Bool
+same [] = true
+same (p ∷ ps) = eqb (p .0) (p .1) && same ps
+
+abbrev pub Same : List (ℕ × ℕ) → Type 0
+Same [] = Unit
+Same (p ∷ ps) = (p .0 ≡ p .1) × Same ps
+
+both : (a b : Bool) → (a && b) ≡ true → (a ≡ true) × (b ≡ true)
+both true b e = (refl, e)
+both false b e = (e, cc)
+
+pub same-true : (ps : List (ℕ × ℕ)) → same ps ≡ true → Same ps
+unfolding same
+same-true [] e = tt
+same-true (p ∷ ps) e =
+    let parts : (eqb (p .0) (p .1) ≡ true) × (same ps ≡ true) = both (eqb (p .0) (p .1)) (same ps) e in
+    (eqb-true (p .0) (p .1) (parts .0), same-true ps (parts .1))
+
+-- ---- lengths that pass, from below
+
+unfoldable pub short : List Row → List Row → ℕ → ℕ
+short ts hs zero = 0
+short ts hs (suc n) = short ts hs n + (handled hs (suc n) + due ts (suc n) - suc n)
+
+-- Nothing lacks: every length up to n passes.
+pub short-zero : (ts hs : List Row) (n : ℕ) → short ts hs n ≡ 0 → PassesTo ts hs n
+unfolding short
+short-zero ts hs zero e l from within = absurd (omega arith)
+short-zero ts hs (suc n) e l from within = go (short-zero ts hs n (omega arith)) (le-or-lt l n)
+  where
+    go : PassesTo ts hs n → (l ≤ n) ⊎ (n < l) → Passes ts hs l
+    go below (inl h) = below l from h
+    go below (inr h) = let last : l ≡ suc n = omega arith in rw last (omega arith)
+
+-- ---- the test of a sheet
+
+unfoldable pub pairs : Word → List ℕ → List ℕ → Figures → List (ℕ × ℕ)
+pairs fits t h g =
+    (verdictRefusal t h, 0)
+    ∷ (short (tasksOf t) (handlersOf h) (searchEnd (tasksOf t) (handlersOf h)), 0)
+    ∷ (g .code, 0)
+    ∷ (g .interval, 0)
+    ∷ (g .handler, 0)
+    ∷ (g .task, 0)
+    ∷ (g .load, load (tasksOf t) (handlersOf h))
+    ∷ []
+pairs misses t h g =
+    (verdictRefusal t h, 0)
+    ∷ (1 - g .interval, 0)
+    ∷ (suc (g .interval) - (handled (handlersOf h) (g .interval) + due (tasksOf t) (g .interval)), 0)
+    ∷ (short (tasksOf t) (handlersOf h) (g .interval - 1), 0)
+    ∷ (g .code, 0)
+    ∷ (g .handler, handled (handlersOf h) (g .interval))
+    ∷ (g .task, due (tasksOf t) (g .interval))
+    ∷ (g .load, load (tasksOf t) (handlersOf h))
+    ∷ []
+pairs refused t h g =
+    (1 - verdictRefusal t h, 0)
+    ∷ (g .code, verdictRefusal t h)
+    ∷ (g .interval, 0)
+    ∷ (g .handler, 0)
+    ∷ (g .task, 0)
+    ∷ (g .load, 0)
+    ∷ []
+
+unfoldable pub holds : Case → Bool
+holds c = same (pairs (c .sheet .word) (c .tasks) (c .handlers) (c .sheet))
+
+-- A sheet whose pairs are the same is what the promise says.
+says-by : (w : Word) (t h : List ℕ) (g : Figures) → Same (pairs w t h g) → SaysBy w t h g
+unfolding pairs SaysBy
+says-by fits t h g (readable, (passes, (code, (interval, (handler, (task, (loaded, _))))))) = record {
+  readable = readable;
+  passes = end-enough (tasksOf t) (handlersOf h) (readable-in-range t h readable) (short-zero (tasksOf t) (handlersOf h) (searchEnd (tasksOf t) (handlersOf h)) passes);
+  code = code;
+  interval = interval;
+  handler = handler;
+  task = task;
+  load = loaded;
+}
+says-by misses t h g (readable, (positive, (fails, (below, (code, (handler, (task, (loaded, _)))))))) = record {
+  readable = readable;
+  shortest = record {
+    positive = omega arith;
+    fails = omega arith;
+    least = λ m from less. short-zero (tasksOf t) (handlersOf h) (g .interval - 1) below m from (omega arith);
+  };
+  code = code;
+  handler = handler;
+  task = task;
+  load = loaded;
+}
+says-by refused t h g (unreadable, (code, (interval, (handler, (task, (loaded, _)))))) = record {
+  unreadable = omega arith;
+  code = code;
+  interval = interval;
+  handler = handler;
+  task = task;
+  load = loaded;
+}
+
+-- A case whose test holds is what the promise says, and whatever the promise allows has its figures.
+pub holds-says : (c : Case) → holds c ≡ true → CaseHolds c
+unfolding holds Says VerdictSays
+holds-says c e =
+    let says : Says (c .tasks) (c .handlers) (c .sheet) = says-by (c .sheet .word) (c .tasks) (c .handlers) (c .sheet) (same-true (pairs (c .sheet .word) (c .tasks) (c .handlers) (c .sheet)) e) in
+    record { holds = says; only = λ r s. says-unique (c .tasks) (c .handlers) (figures r) (c .sheet) s says }
+
+-- ---- the twelve
+
+unfoldable pub allHold : List Case → Bool
+allHold [] = true
+allHold (c ∷ cs) = holds c && allHold cs
+
+pub every-case : (cs : List Case) → allHold cs ≡ true → EveryCase cs
+unfolding allHold
+every-case [] e = tt
+every-case (c ∷ cs) e =
+    let parts : (holds c ≡ true) × (allHold cs ≡ true) = both (holds c) (allHold cs) e in
+    (holds-says c (parts .0), every-case cs (parts .1))
+
+-- The one computation: here the definitions are opened, crate demand's too, since only numbers are left to find.
+all-hold : allHold cases ≡ true
+unfolding allHold holds same pairs short cases searchEnd endBy verdictRefusal tableThen load whole work costs nearest period lcmFrom lcm gcd euclid handled called taken grow due total some rowsOf
+all-hold = refl
+
+pub cases-hold : EveryCase cases
+cases-hold = every-case cases all-hold

@@ -1,0 +1,11 @@
+pub mod Divisors
+pub mod Loads
+pub mod Readable
+pub mod Drain
+pub mod Shares
+pub mod Common
+pub mod Ends
+pub mod Lengths
+pub mod Once
+pub mod UnderLess
+pub mod Cases

@@ -1,0 +1,59 @@
+-- Laws of W, E and the load (specs/Loads): row by row, how great they get, and the load without a long product.
+use mathlib.Core.List.{List, [], _∷_}
+use mathlib.Core.Path.{_≡_, refl, ap, _∙_}
+use native.Mathlib.Nat.{mul-le-mul, mul-add-div, div-le-self, div-add-mod'}
+use native.Mathlib.Omega.{arith}
+use lib.ListN.{length}
+use Prim.Native.Nat.{ℕ, _+_, _*_, _/_, _%_, _≤_, _<_}
+use Rattle.demand.specs.Refusals.{FairRow}
+use Rattle.demand.specs.Rows.{Row, total, Each}
+use Rattle.demand.proofs.Sums.{each-map, total-most}
+use Rattle.verdict.specs.Loads.{workBy, work, costs, nearest}
+
+-- ---- row by row
+
+pub work-nil : (m : ℕ) → work m [] ≡ 0
+unfolding work total
+work-nil m = refl
+
+pub work-cons : (m : ℕ) (r : Row) (rs : List Row) → work m (r ∷ rs) ≡ r .cost * (m / r .period) + work m rs
+unfolding work total
+work-cons m r rs = refl
+
+pub costs-nil : costs [] ≡ 0
+unfolding costs total
+costs-nil = refl
+
+pub costs-cons : (r : Row) (rs : List Row) → costs (r ∷ rs) ≡ r .cost + costs rs
+unfolding costs total
+costs-cons r rs = refl
+
+-- ---- how great they get
+
+-- A row whose figures are in range brings at most 1,000,000 times 1,000,000,000.
+pub work-most : (m : ℕ) (rs : List Row) → Each FairRow rs → m ≤ 1000000000 → work m rs ≤ length rs * 1000000000000000
+unfolding work
+work-most m rs fair short = total-most 1000000000000000 (workBy m) rs (each-map row rs fair)
+  where
+    row : (r : Row) → FairRow r → workBy m r ≤ 1000000000000000
+    row r f =
+        let jobs : m / r .period ≤ 1000000000 = omega (arith, div-le-self m (r .period)) in
+        mul-le-mul (f .cost .most) jobs
+
+pub costs-most : (rs : List Row) → Each FairRow rs → costs rs ≤ length rs * 1000000
+unfolding costs
+costs-most rs fair = total-most 1000000 (λ r. r .cost) rs (each-map (λ r f. f .cost .most) rs fair)
+
+-- Every handler costs something: only no handler costs nothing.
+pub costs-zero : (hs : List Row) → Each FairRow hs → costs hs ≡ 0 → hs ≡ []
+costs-zero [] fair e = refl
+costs-zero (h ∷ hs) fair e = absurd (omega (arith, costs-cons h hs, fair .0 .cost .least))
+
+-- ---- the load
+
+-- 1,000,000 times w / h to the nearest: whole times first, so that no number is longer than the remainder asks.
+pub nearest-split : (w h : ℕ) → 0 < h → nearest (1000000 * w) h ≡ 1000000 * (w / h) + (2 * (1000000 * (w % h)) + h) / (2 * h)
+unfolding nearest
+nearest-split w h pos =
+    let parts : 2 * (1000000 * w) + h ≡ 2 * h * (1000000 * (w / h)) + (2 * (1000000 * (w % h)) + h) = omega (arith, div-add-mod' w h) in
+    ap (λ (x : ℕ). x / (2 * h)) parts ∙ mul-add-div {m = 2 * h} (omega arith) (1000000 * (w / h)) (2 * (1000000 * (w % h)) + h)
