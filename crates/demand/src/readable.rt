@@ -1,11 +1,36 @@
 // Calls for the crates above on a table that has been found in range, so that a search tests its rows once and not at every length.
+ghost use mathlib.Core.List.{_∷_};
 ghost use mathlib.Core.Path.{_≡_};
-ghost use Prim.Native.Nat.{_≤_, min};
+ghost use Prim.Native.Nat.{_<_, _≤_, min};
+ghost use lib.ListN.{length};
 ghost use Rattle.demand.specs.Demands.{handled, due};
 ghost use Rattle.demand.specs.Refusals.{askedRefusal};
-ghost use Rattle.demand.specs.Rows.{tasksOf, handlersOf};
-ghost use Rattle.demand.specs.Walk.{nextMultiple, Small};
+ghost use Rattle.demand.specs.Rows.{rowsOf, tasksOf, handlersOf};
+ghost use Rattle.demand.specs.Walk.{rowOf, rest, nextMultiple, Small};
 use crate::rows;
+
+// A row: its cost and its period.
+pub struct Row {
+    pub cost: u64,
+    pub period: u64,
+}
+
+fn wide(x: u32) -> u64
+    ensures { λ r. ⌜ (r ≡ x) × (r < 4294967296) ⌝ }
+{
+    x as u64
+}
+
+// The row at the head: the only place in the code that knows where its figures stand.
+pub fn head(s: &[u32]) -> Row
+    requires { ⌜ 2 ≤ length (now s) ⌝ }
+    ensures { λ r. ⌜ rowsOf (now (s .entry)) ≡ rowOf r ∷ rowsOf (rest (now (s .entry))) ⌝ }
+{
+    Row {
+        cost: wide(s[0]),
+        period: wide(s[1]),
+    }
+}
 
 // D at l.
 pub fn due(tasks: &[u32], handlers: &[u32], l: u64) -> u64
