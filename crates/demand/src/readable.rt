@@ -48,7 +48,7 @@ pub fn next_length(tasks: &[u32], handlers: &[u32], l: u64, top: u64) -> u64
     rows::next_multiple(tasks, l, top)
 }
 
-// f at m, from f at l: on from one handler arrival to the next.
+// f at m, from f at l: through the work called for at once, then on to the next arrival.
 pub fn handled(tasks: &[u32], handlers: &[u32], l: u64, f: u64, m: u64) -> u64
     requires { ⌜ askedRefusal (now tasks) (now handlers) m ≡ 0 ⌝ }
     requires { ⌜ (l ≤ m) × (f ≡ handled (handlersOf (now handlers)) l) ⌝ }
@@ -66,9 +66,13 @@ fn handled_on(handlers: &[u32], l: u64, f: u64, m: u64) -> u64
     let mut taken = f;
     while at < m {
         let work = rows::called(handlers, at + 1);
-        let next = rows::next_multiple(handlers, at, m);
-        taken = lesser(taken + (next - at), work);
-        at = next;
+        if taken < work {
+            let busy = lesser(work - taken, m - at);
+            taken += busy;
+            at += busy;
+        } else {
+            at = rows::next_multiple(handlers, at, m);
+        }
     }
     taken
 }
