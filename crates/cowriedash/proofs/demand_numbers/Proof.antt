@@ -1,0 +1,26 @@
+use mathlib.Core.Path.{_≡_, sym, ap}
+use Rattle.cowriedash.specs.Numbers.{demandNumbers}
+use borrow.Author.Needs.{needs}
+use Rattle.cowriedash.proofs.demand_numbers.Statement.{statement}
+use Rattle.cowriedash.proofs.demand_numbers.Tie as tie
+use Rattle.cowriedash.proofs.demand_numbers.Reads as reads
+use Rattle.cowriedash.proofs.demand_numbers.Lts as lts
+
+enum-known-answer : tie.Need-enum-known-answer
+enum-known-answer c = search needs
+
+enum-known-answer-2 : tie.Need-enum-known-answer-2
+enum-known-answer-2 c = search needs
+
+cast-t5 : tie.Need-cast-t5
+cast-t5 c = search needs
+
+returns : tie.Need-returns
+returns c = sym (ap demandNumbers (c .before .answer .given .1))
+
+returns-2 : tie.Need-returns-2
+returns-2 c = sym (ap demandNumbers (c .before .answer2 .given .1))
+
+pub demand-numbers-spec : {M : Type 1} → statement M
+demand-numbers-spec =
+    tie.close (tie.spec enum-known-answer enum-known-answer-2 cast-t5 returns returns-2)

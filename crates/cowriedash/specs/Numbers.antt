@@ -1,0 +1,42 @@
+-- What the licensees' library lays into the caller's numbers: the figures of the promises below it, in their order.
+--   verdictNumbers r   == 0 fits, 1 misses, 2 refused; then code, interval, handler, task, load
+--   demandNumbers r    == the refusal's number or 0, then the ticks
+--   VerdictTold t h out, HandlerTold t h l out, TaskTold t h l out   the numbers are those of an answer that the promise allows
+use mathlib.Core.List.{List, [], _∷_}
+use mathlib.Core.Path.{_≡_}
+use Prim.Native.Nat.{ℕ}
+use Rattle.demand.specs.Answers.{DemandSays}
+use Rattle.demand.specs.Demands.{handled, due}
+use Rattle.demand.specs.Refusals.{askedRefusal}
+use Rattle.demand.specs.Rows.{tasksOf, handlersOf}
+use Rattle.demand.specs.declared.DemandAnswer.{DemandAnswer}
+use Rattle.demand.specs.declared.DemandAnswer.the-variants as demand
+use Rattle.verdict.specs.Promise.{VerdictSays}
+use Rattle.verdict.specs.declared.Answer.{Answer}
+use Rattle.verdict.specs.declared.Answer.the-variants as verdict
+
+abbrev pub verdictNumbers : Answer → List ℕ
+verdictNumbers (verdict.Fits load) = 0 ∷ 0 ∷ 0 ∷ 0 ∷ 0 ∷ load ∷ []
+verdictNumbers (verdict.Misses interval handler task load) = 1 ∷ 0 ∷ interval ∷ handler ∷ task ∷ load ∷ []
+verdictNumbers (verdict.Refused number) = 2 ∷ number ∷ 0 ∷ 0 ∷ 0 ∷ 0 ∷ []
+
+abbrev pub demandNumbers : DemandAnswer → List ℕ
+demandNumbers (demand.Ticks n) = 0 ∷ n ∷ []
+demandNumbers (demand.Refused k) = k ∷ 0 ∷ []
+
+pub record VerdictTold (t h out : List ℕ) : Type 0 where
+  pub answer : Answer
+  pub says : VerdictSays t h answer
+  pub numbers : out ≡ verdictNumbers answer
+
+-- the numbers of a demand of n ticks, where the refusal is k
+pub record DemandTold (k n : ℕ) (out : List ℕ) : Type 0 where
+  pub answer : DemandAnswer
+  pub says : DemandSays k n answer
+  pub numbers : out ≡ demandNumbers answer
+
+abbrev pub HandlerTold : List ℕ → List ℕ → ℕ → List ℕ → Type 0
+HandlerTold t h l out = DemandTold (askedRefusal t h l) (handled (handlersOf h) l) out
+
+abbrev pub TaskTold : List ℕ → List ℕ → ℕ → List ℕ → Type 0
+TaskTold t h l out = DemandTold (askedRefusal t h l) (due (tasksOf t) l) out

@@ -1,0 +1,68 @@
+// The licensees' library: the demands and the verdict for C, with numbers and slices only at the boundary.
+ghost use Rattle.cowriedash.specs.Numbers.{verdictNumbers, demandNumbers, VerdictTold, HandlerTold, TaskTold};
+ghost use mathlib.Core.Path.{_≡_};
+use demand::DemandAnswer;
+use verdict::Answer;
+
+// The six numbers of a verdict: 0 fits, 1 misses, 2 refused; then code, interval, handler, task, load.
+fn verdict_numbers(answer: Answer) -> [u64; 6]
+    ensures { λ r. ⌜ r ≡ verdictNumbers answer ⌝ }
+{
+    match answer {
+        Answer::Fits { load } => [0, 0, 0, 0, 0, load],
+        Answer::Misses {
+            interval,
+            handler,
+            task,
+            load,
+        } => [1, 0, interval, handler, task, load],
+        Answer::Refused { number } => [2, number as u64, 0, 0, 0, 0],
+    }
+}
+
+// The two numbers of a demand: the refusal's number or 0, then the ticks.
+fn demand_numbers(answer: DemandAnswer) -> [u64; 2]
+    ensures { λ r. ⌜ r ≡ demandNumbers answer ⌝ }
+{
+    match answer {
+        DemandAnswer::Ticks { ticks } => [0, ticks],
+        DemandAnswer::Refused { number } => [number as u64, 0],
+    }
+}
+
+// The verdict on a table.
+#[no_mangle]
+pub extern "C" fn cowriedash_verdict(tasks: &[u32], handlers: &[u32], out: &mut [u64; 6])
+    ensures { λ _. ⌜ VerdictTold (now (tasks .entry)) (now (handlers .entry)) (now (out .exit)) ⌝ }
+{
+    let answer = verdict::verdict(tasks, handlers);
+    *out = verdict_numbers(answer);
+}
+
+// Handler demand at l.
+#[no_mangle]
+pub extern "C" fn cowriedash_handler_demand(
+    tasks: &[u32],
+    handlers: &[u32],
+    l: u64,
+    out: &mut [u64; 2],
+)
+    ensures { λ _. ⌜ HandlerTold (now (tasks .entry)) (now (handlers .entry)) l (now (out .exit)) ⌝ }
+{
+    let answer = demand::handler_demand(tasks, handlers, l);
+    *out = demand_numbers(answer);
+}
+
+// Task demand at l.
+#[no_mangle]
+pub extern "C" fn cowriedash_task_demand(
+    tasks: &[u32],
+    handlers: &[u32],
+    l: u64,
+    out: &mut [u64; 2],
+)
+    ensures { λ _. ⌜ TaskTold (now (tasks .entry)) (now (handlers .entry)) l (now (out .exit)) ⌝ }
+{
+    let answer = demand::task_demand(tasks, handlers, l);
+    *out = demand_numbers(answer);
+}
