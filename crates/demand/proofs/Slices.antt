@@ -3,10 +3,11 @@ use mathlib.Core.Bool.{Bool, false, _||_}
 use mathlib.Core.List.{List, [], _∷_}
 use mathlib.Core.Path.{_≡_, refl, ap, sym, _∙_}
 use native.Mathlib.Nat.{div-eq-sub-div, div-eq-of-lt}
+use native.Mathlib.Numerals.{add-one}
 use native.Mathlib.Omega.{arith}
 use Prim.Native.Nat.{ℕ, zero, suc, _+_, _-_, _*_, _/_, _≤_, _<_, min}
 use lib.ListN.{length, getD, take, drop, length-drop}
-use lib.Seq.{take-all}
+use lib.Seq.{take-all, drop-drop}
 use Rattle.demand.specs.Demands.{calledBy, dueBy, called, due}
 use Rattle.demand.specs.Refusals.{FairRow}
 use Rattle.demand.specs.Rows.{Row, rowsOf, rowAt, total, some}
@@ -47,6 +48,22 @@ rows-at (c ∷ []) i h = absurd (omega arith)
 rows-at (c ∷ p ∷ s) zero h = refl
 rows-at (c ∷ p ∷ s) (suc i) h = let e : suc i + suc i ≡ suc (suc (i + i)) = omega arith in rw e (rows-at s i (omega arith))
 
+-- The list from place i on, as the code lends it; two places further is the rest of it.
+abbrev pub from : ℕ → List ℕ → List ℕ
+from i s = take (length s - i) (drop i s)
+
+pub from-is : (i : ℕ) (s : List ℕ) → from i s ≡ drop i s
+from-is i s = take-all (length s - i) (drop i s) (omega (arith, length-drop i s))
+
+pub from-length : (i : ℕ) (s : List ℕ) → length (from i s) ≡ length s - i
+from-length i s = rw from-is (length-drop i s)
+
+pub from-zero : (s : List ℕ) → from 0 s ≡ s
+from-zero s = from-is 0 s
+
+pub from-rest : (i : ℕ) (s : List ℕ) → rest (from i s) ≡ from (i + 2) s
+from-rest i s = from-is 2 (from i s) ∙ ap (drop 2) (from-is i s) ∙ drop-drop 2 i s ∙ sym (from-is (i + 2) s)
+
 -- The row at the head, from the two numbers read there.
 pub head-read : (s : List ℕ) (c p : ℕ) → 2 ≤ length s → c ≡ getD s 0 0 → p ≡ getD s 1 0 → rowsOf s ≡ record { cost = c; period = p } ∷ rowsOf (rest s)
 head-read s c p h ec ep = rw (ec, ep) (rows-head s h)
@@ -85,12 +102,22 @@ module _ (s : List ℕ) (r : Row) (e : rowsOf s ≡ r ∷ rowsOf (rest s)) where
   unfolding some
   some-head test b q = rw (e, q)
 
-  pub next-head : (at top x : ℕ) → x ≡ nextMultiple (rowsOf (rest s)) at top → min (suc (at / r .period) * r .period) x ≡ nextMultiple (rowsOf s) at top
-  unfolding nextMultiple
-  next-head at top x q = rw (e, q)
-
   pub fair-head : (l : ℕ) → Small (rowsOf s) l → FairRow r
   fair-head l h = (rw e at h) .rows .0
 
   pub small-rest : (l : ℕ) → Small (rowsOf s) l → Small (rowsOf (rest s)) l
   small-rest l h = let t : Small (r ∷ rowsOf (rest s)) l = rw e at h in record { rows = t .rows .1; count = omega (arith, t .count); ticks = t .ticks }
+
+-- ---- a loop that goes row by row: what is left after the row at place i
+
+module _ (s : List ℕ) (i : ℕ) (r : Row) (e : rowsOf (from i s) ≡ r ∷ rowsOf (rest (from i s))) where
+  pub next-turn : (at top m : ℕ) → m ≡ min ((at / r .period + 1) * r .period) top → nextMultiple (rowsOf (from (i + 2) s)) at m ≡ nextMultiple (rowsOf (from i s)) at top
+  unfolding nextMultiple
+  next-turn at top m em = rw (e, from-rest i s, em, add-one)
+
+  pub small-turn : (l : ℕ) → Small (rowsOf (from i s)) l → Small (rowsOf (from (i + 2) s)) l
+  small-turn l h = rw (from-rest i s) at (small-rest (from i s) r e l h)
+
+-- No row is left.
+pub next-over : (s : List ℕ) (i at top : ℕ) → length s ≤ i + 1 → top ≡ nextMultiple (rowsOf (from i s)) at top
+next-over s i at top h = sym (next-short (from i s) (omega (arith, from-length i s)) at top)

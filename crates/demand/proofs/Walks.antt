@@ -15,18 +15,20 @@ use Rattle.demand.proofs.Sums.{each-map}
 pub next-within : (rs : List Row) (at top : ℕ) → nextMultiple rs at top ≤ top
 unfolding nextMultiple
 next-within [] at top = omega arith
-next-within (r ∷ rs) at top = omega (arith, next-within rs at top)
+next-within (r ∷ rs) at top = omega (arith, next-within rs at (min (suc (at / r .period) * r .period) top))
 
 pub next-above : (rs : List Row) (at top : ℕ) → Positive rs → at < top → at < nextMultiple rs at top
 unfolding nextMultiple
 next-above [] at top pos h = h
-next-above (r ∷ rs) at top pos h = omega (arith, next-above rs at top (pos .1) h, lt-div-mul-add {a = at} (pos .0))
+next-above (r ∷ rs) at top pos h = next-above rs at (min (suc (at / r .period) * r .period) top) (pos .1) (omega (arith, lt-div-mul-add {a = at} (pos .0)))
 
 -- No row has a multiple of its period strictly between.
 pub next-until : (rs : List Row) (at top : ℕ) → Until rs at (nextMultiple rs at top)
 unfolding nextMultiple
 next-until [] at top = tt
-next-until (r ∷ rs) at top = (omega arith, until-less rs at (nextMultiple rs at top) (min (suc (at / r .period) * r .period) (nextMultiple rs at top)) (omega arith) (next-until rs at top))
+next-until (r ∷ rs) at top =
+    let sooner : ℕ = min (suc (at / r .period) * r .period) top in
+    (omega (arith, next-within rs at sooner), next-until rs at sooner)
 
 -- While work that has been called for is left, every tick goes to it.
 pub handled-busy : (hs : List Row) (at k : ℕ) → handled hs at + k ≤ called hs (at + 1) → handled hs (at + k) ≡ handled hs at + k

@@ -19,7 +19,7 @@ rowOf r = record { cost = r .cost; period = r .period }
 
 unfoldable pub nextMultiple : List Row → ℕ → ℕ → ℕ
 nextMultiple [] at top = top
-nextMultiple (r ∷ rs) at top = min (suc (at / r .period) * r .period) (nextMultiple rs at top)
+nextMultiple (r ∷ rs) at top = nextMultiple rs at (min (suc (at / r .period) * r .period) top)
 
 pub record Small (rs : List Row) (l : ℕ) : Type 0 where
   pub rows : Each FairRow rs

@@ -1,7 +1,7 @@
 // Calls for the crates above on a table that has been found in range, so that a search tests its rows once and not at every length.
 ghost use mathlib.Core.List.{_∷_};
 ghost use mathlib.Core.Path.{_≡_};
-ghost use Prim.Native.Nat.{_<_, _≤_, min};
+ghost use Prim.Native.Nat.{_<_, _≤_};
 ghost use lib.ListN.{length};
 ghost use Rattle.demand.specs.Demands.{handled, due};
 ghost use Rattle.demand.specs.Refusals.{askedRefusal};
@@ -67,7 +67,7 @@ fn handled_on(handlers: &[u32], l: u64, f: u64, m: u64) -> u64
     while at < m {
         let work = rows::called(handlers, at + 1);
         if taken < work {
-            let busy = lesser(work - taken, m - at);
+            let busy = rows::lesser(work - taken, m - at);
             taken += busy;
             at += busy;
         } else {
@@ -75,10 +75,4 @@ fn handled_on(handlers: &[u32], l: u64, f: u64, m: u64) -> u64
         }
     }
     taken
-}
-
-fn lesser(a: u64, b: u64) -> u64
-    ensures { λ r. ⌜ r ≡ min a b ⌝ }
-{
-    if a < b { a } else { b }
 }

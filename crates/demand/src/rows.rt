@@ -1,9 +1,16 @@
 // Totals over the rows of one lent list, each handing the list from its third number on to itself.
 ghost use mathlib.Core.Path.{_≡_};
+ghost use Prim.Native.Nat.{min};
 ghost use Rattle.demand.specs.Demands.{called, due};
 ghost use Rattle.demand.specs.Rows.{rowsOf, tasksOf, handlersOf};
 ghost use Rattle.demand.specs.Walk.{Small, nextMultiple};
 use crate::readable::head;
+
+pub fn lesser(a: u64, b: u64) -> u64
+    ensures { λ r. ⌜ r ≡ min a b ⌝ }
+{
+    if a < b { a } else { b }
+}
 
 // D: the work of tasks that is due within l ticks.
 pub fn due(tasks: &[u32], l: u64) -> u64
@@ -14,8 +21,8 @@ pub fn due(tasks: &[u32], l: u64) -> u64
         return 0;
     }
     let task = head(tasks);
-    let rest = due(&tasks[2..], l);
-    task.cost * (l / task.period) + rest
+    let own = task.cost * (l / task.period);
+    own + due(&tasks[2..], l)
 }
 
 // A: the work that handlers are called for within l ticks.
@@ -27,8 +34,8 @@ pub fn called(handlers: &[u32], l: u64) -> u64
         return 0;
     }
     let handler = head(handlers);
-    let rest = called(&handlers[2..], l);
-    handler.cost * ((l + (handler.period - 1)) / handler.period) + rest
+    let own = handler.cost * ((l + (handler.period - 1)) / handler.period);
+    own + called(&handlers[2..], l)
 }
 
 // The first multiple of a row's period above at, or top where that comes first.
@@ -36,11 +43,12 @@ pub fn next_multiple(s: &[u32], at: u64, top: u64) -> u64
     requires { ⌜ Small (rowsOf (now s)) at ⌝ }
     ensures { λ r. ⌜ r ≡ nextMultiple (rowsOf (now (s .entry))) at top ⌝ }
 {
-    if s.len() < 2 {
-        return top;
+    let mut first = top;
+    let mut i = 0;
+    while i + 1 < s.len() {
+        let row = head(&s[i..]);
+        first = lesser((at / row.period + 1) * row.period, first);
+        i += 2;
     }
-    let row = head(s);
-    let rest = next_multiple(&s[2..], at, top);
-    let own = (at / row.period + 1) * row.period;
-    if own < rest { own } else { rest }
+    first
 }

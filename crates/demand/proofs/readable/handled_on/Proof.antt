@@ -10,7 +10,7 @@ use Rattle.demand.proofs.readable.handled_on.Statement.{statement}
 use Rattle.demand.proofs.readable.handled_on.Tie as tie
 use Rattle.demand.proofs.readable.handled_on.Reads as reads
 use Rattle.demand.proofs.readable.handled_on.Lts as lts
-use Rattle.demand.proofs.readable.lesser.Reads as lesser-reads
+use Rattle.demand.proofs.rows.lesser.Reads as lesser-reads
 use Rattle.demand.proofs.rows.called.Reads as called-reads
 use Rattle.demand.proofs.rows.next_multiple.Reads as next-multiple-reads
 

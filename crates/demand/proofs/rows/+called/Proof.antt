@@ -28,6 +28,24 @@ called-returns t c = sym (called-short _ (c .if1 .taken) _)
 called-head-requires : (t : ℕ) → called-lts.Need-head-requires (head-reads.Asked, head-reads.Learnt, called-below t, called.Post) (called-at t) called.Post
 called-head-requires t c κs = omega arith
 
+called-sub-own : (t : ℕ) → called-lts.Need-sub-own (head-reads.Asked, head-reads.Learnt, called-below t, called.Post) (called-at t) called.Post
+called-sub-own t c = fair-head _ _ (c .before .head .ensures) _ (c .before .before .before .before .pre .1) .period .least
+
+called-add-own : (t : ℕ) → called-lts.Need-add-own (head-reads.Asked, head-reads.Learnt, called-below t, called.Post) (called-at t) called.Post
+called-add-own t c =
+    let start = c .before .before .before .before in
+    let fair = fair-head _ _ (c .before .head .ensures) _ (start .pre .1) in
+    omega (arith, start .pre .1 .ticks, fair .period .most)
+
+called-div-own : (t : ℕ) → called-lts.Need-div-own (head-reads.Asked, head-reads.Learnt, called-below t, called.Post) (called-at t) called.Post
+called-div-own t c = fair-head _ _ (c .before .before .head .ensures) _ (c .before .before .before .before .before .pre .1) .period .least
+
+called-mul-own : (t : ℕ) → called-lts.Need-mul-own (head-reads.Asked, head-reads.Learnt, called-below t, called.Post) (called-at t) called.Post
+called-mul-own t c =
+    let start = c .before .before .before .before .before .before in
+    let fair = fair-head _ _ (c .before .before .before .head .ensures) _ (start .pre .1) in
+    omega (arith, called-by-most (start .args .l) _ (start .pre .1 .ticks) fair)
+
 called-sub-called : (t : ℕ) → called-lts.Need-sub-called (head-reads.Asked, head-reads.Learnt, called-below t, called.Post) (called-at t) called.Post
 called-sub-called t c = omega arith
 
@@ -39,40 +57,18 @@ called-part-called-end t c = omega arith
 
 called-called-requires : (t : ℕ) → called-lts.Need-called-requires (head-reads.Asked, head-reads.Learnt, called-below t, called.Post) (called-at t) called.Post
 called-called-requires t c κs =
-    let x = c .before .before .before .before in
-    let s = x .args .handlers .now in
-    (omega (arith, rest-length s), small-rest s _ (c .before .head .ensures) _ (x .pre .1))
-
-called-sub-result : (t : ℕ) → called-lts.Need-sub-result (head-reads.Asked, head-reads.Learnt, called-below t, called.Post) (called-at t) called.Post
-called-sub-result t c =
-    let x = c .before .before .before .before .before .before in
-    fair-head _ _ (c .before .before .before .head .ensures) _ (x .pre .1) .period .least
+    let start = c .before .before .before .before .before .before .before in
+    let s = start .args .handlers .now in
+    (omega (arith, rest-length s), small-rest s _ (c .before .before .before .before .head .ensures) _ (start .pre .1))
 
 called-add-result : (t : ℕ) → called-lts.Need-add-result (head-reads.Asked, head-reads.Learnt, called-below t, called.Post) (called-at t) called.Post
 called-add-result t c =
-    let x = c .before .before .before .before .before .before in
-    let fair = fair-head _ _ (c .before .before .before .head .ensures) _ (x .pre .1) in
-    omega (arith, x .pre .1 .ticks, fair .period .most)
-
-called-div-result : (t : ℕ) → called-lts.Need-div-result (head-reads.Asked, head-reads.Learnt, called-below t, called.Post) (called-at t) called.Post
-called-div-result t c =
-    let x = c .before .before .before .before .before .before .before in
-    fair-head _ _ (c .before .before .before .before .head .ensures) _ (x .pre .1) .period .least
-
-called-mul-result : (t : ℕ) → called-lts.Need-mul-result (head-reads.Asked, head-reads.Learnt, called-below t, called.Post) (called-at t) called.Post
-called-mul-result t c =
-    let x = c .before .before .before .before .before .before .before .before in
-    let fair = fair-head _ _ (c .before .before .before .before .before .head .ensures) _ (x .pre .1) in
-    omega (arith, called-by-most (x .args .l) _ (x .pre .1 .ticks) fair)
-
-called-add-result-2 : (t : ℕ) → called-lts.Need-add-result-2 (head-reads.Asked, head-reads.Learnt, called-below t, called.Post) (called-at t) called.Post
-called-add-result-2 t c =
-    let x = c .before .before .before .before .before .before .before .before in
-    let sum = called-head _ _ (c .before .before .before .before .before .head .ensures) (x .args .l) _ (c .before .before .before .called .ensures) in
-    omega (arith, sum, called-most _ _ (x .pre .1))
+    let start = c .before .before .before .before .before .before .before .before in
+    let sum = called-head _ _ (c .before .before .before .before .before .head .ensures) (start .args .l) _ (c .called .ensures) in
+    omega (arith, sum, called-most _ _ (start .pre .1))
 
 called-returns-2 : (t : ℕ) → called-lts.Need-returns-2 (head-reads.Asked, head-reads.Learnt, called-below t, called.Post) (called-at t) called.Post
-called-returns-2 t c = called-head _ _ (c .before .before .before .before .before .head .ensures) _ _ (c .before .before .before .called .ensures)
+called-returns-2 t c = called-head _ _ (c .before .before .before .before .before .head .ensures) _ _ (c .called .ensures)
 
 pub +called-spec : {M : Type 1} → statement M
 +called-spec = close μ-called λ t. called-lts.spec (head-reads.Asked, head-reads.Learnt, called-below t, called.Post)
@@ -80,13 +76,13 @@ pub +called-spec : {M : Type 1} → statement M
     called.Post
     (called-returns t)
     (called-head-requires t)
+    (called-sub-own t)
+    (called-add-own t)
+    (called-div-own t)
+    (called-mul-own t)
     (called-sub-called t)
     (called-part-called-start t)
     (called-part-called-end t)
     (called-called-requires t)
-    (called-sub-result t)
     (called-add-result t)
-    (called-div-result t)
-    (called-mul-result t)
-    (called-add-result-2 t)
     (called-returns-2 t)

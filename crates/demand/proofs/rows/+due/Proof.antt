@@ -28,6 +28,15 @@ due-returns t c = sym (due-short _ (c .if1 .taken) _)
 due-head-requires : (t : ℕ) → due-lts.Need-head-requires (head-reads.Asked, head-reads.Learnt, due-below t, due.Post) (due-at t) due.Post
 due-head-requires t c κs = omega arith
 
+due-div-own : (t : ℕ) → due-lts.Need-div-own (head-reads.Asked, head-reads.Learnt, due-below t, due.Post) (due-at t) due.Post
+due-div-own t c = fair-head _ _ (c .before .head .ensures) _ (c .before .before .before .before .pre .1) .period .least
+
+due-mul-own : (t : ℕ) → due-lts.Need-mul-own (head-reads.Asked, head-reads.Learnt, due-below t, due.Post) (due-at t) due.Post
+due-mul-own t c =
+    let start = c .before .before .before .before .before in
+    let fair = fair-head _ _ (c .before .before .head .ensures) _ (start .pre .1) in
+    omega (arith, due-by-most (start .args .l) _ (start .pre .1 .ticks) fair)
+
 due-sub-due : (t : ℕ) → due-lts.Need-sub-due (head-reads.Asked, head-reads.Learnt, due-below t, due.Post) (due-at t) due.Post
 due-sub-due t c = omega arith
 
@@ -39,29 +48,18 @@ due-part-due-end t c = omega arith
 
 due-due-requires : (t : ℕ) → due-lts.Need-due-requires (head-reads.Asked, head-reads.Learnt, due-below t, due.Post) (due-at t) due.Post
 due-due-requires t c κs =
-    let x = c .before .before .before .before in
-    let s = x .args .tasks .now in
-    (omega (arith, rest-length s), small-rest s _ (c .before .head .ensures) _ (x .pre .1))
-
-due-div-result : (t : ℕ) → due-lts.Need-div-result (head-reads.Asked, head-reads.Learnt, due-below t, due.Post) (due-at t) due.Post
-due-div-result t c =
-    let x = c .before .before .before .before .before .before in
-    fair-head _ _ (c .before .before .before .head .ensures) _ (x .pre .1) .period .least
-
-due-mul-result : (t : ℕ) → due-lts.Need-mul-result (head-reads.Asked, head-reads.Learnt, due-below t, due.Post) (due-at t) due.Post
-due-mul-result t c =
-    let x = c .before .before .before .before .before .before .before in
-    let fair = fair-head _ _ (c .before .before .before .before .head .ensures) _ (x .pre .1) in
-    omega (arith, due-by-most (x .args .l) _ (x .pre .1 .ticks) fair)
+    let start = c .before .before .before .before .before .before in
+    let s = start .args .tasks .now in
+    (omega (arith, rest-length s), small-rest s _ (c .before .before .before .head .ensures) _ (start .pre .1))
 
 due-add-result : (t : ℕ) → due-lts.Need-add-result (head-reads.Asked, head-reads.Learnt, due-below t, due.Post) (due-at t) due.Post
 due-add-result t c =
-    let x = c .before .before .before .before .before .before .before in
-    let sum = due-head _ _ (c .before .before .before .before .head .ensures) (x .args .l) _ (c .before .before .due .ensures) in
-    omega (arith, sum, due-most _ _ (x .pre .1))
+    let start = c .before .before .before .before .before .before .before in
+    let sum = due-head _ _ (c .before .before .before .before .head .ensures) (start .args .l) _ (c .due .ensures) in
+    omega (arith, sum, due-most _ _ (start .pre .1))
 
 due-returns-2 : (t : ℕ) → due-lts.Need-returns-2 (head-reads.Asked, head-reads.Learnt, due-below t, due.Post) (due-at t) due.Post
-due-returns-2 t c = due-head _ _ (c .before .before .before .before .head .ensures) _ _ (c .before .before .due .ensures)
+due-returns-2 t c = due-head _ _ (c .before .before .before .before .head .ensures) _ _ (c .due .ensures)
 
 pub +due-spec : {M : Type 1} → statement M
 +due-spec = close μ-due λ t. due-lts.spec (head-reads.Asked, head-reads.Learnt, due-below t, due.Post)
@@ -69,11 +67,11 @@ pub +due-spec : {M : Type 1} → statement M
     due.Post
     (due-returns t)
     (due-head-requires t)
+    (due-div-own t)
+    (due-mul-own t)
     (due-sub-due t)
     (due-part-due-start t)
     (due-part-due-end t)
     (due-due-requires t)
-    (due-div-result t)
-    (due-mul-result t)
     (due-add-result t)
     (due-returns-2 t)
