@@ -27,6 +27,11 @@ void cowriedash_handler_demand(const uint32_t *tasks, size_t tasks_count, const 
 void cowriedash_task_demand(const uint32_t *tasks, size_t tasks_count, const uint32_t *handlers, size_t handlers_count,
                             uint64_t l, uint64_t out[2]);
 
+/* Returns the refusal's number (1, 2, 3 or 5) or 0; out: l less both demands, below 0 exactly where the interval
+   fails, 0 if refused. */
+uint32_t cowriedash_margin(const uint32_t *tasks, size_t tasks_count, const uint32_t *handlers, size_t handlers_count,
+                           uint64_t l, int64_t *out);
+
 #ifdef __cplusplus
 }
 #endif

@@ -1,16 +1,18 @@
 -- What the licensees' library lays into the caller's numbers: the figures of the promises below it, in their order.
 --   verdictNumbers r   == 0 fits, 1 misses, 2 refused; then code, interval, handler, task, load
 --   demandNumbers r    == the refusal's number or 0, then the ticks
---   VerdictTold t h out, HandlerTold t h l out, TaskTold t h l out   the numbers are those of an answer that the promise allows
+--   VerdictTold t h out, HandlerTold t h l out, TaskTold t h l out, MarginTold t h l code ticks   the numbers are those of an answer that the promise allows
 use mathlib.Core.List.{List, [], _∷_}
 use mathlib.Core.Path.{_≡_}
+use lib.IntN.{ℤ}
 use Prim.Native.Nat.{ℕ}
-use Rattle.demand.specs.Answers.{DemandSays}
+use Rattle.demand.specs.Answers.{DemandSays, MarginSays, marginFigures}
 use Rattle.demand.specs.Demands.{handled, due}
 use Rattle.demand.specs.Refusals.{askedRefusal}
 use Rattle.demand.specs.Rows.{tasksOf, handlersOf}
 use Rattle.demand.specs.declared.DemandAnswer.{DemandAnswer}
 use Rattle.demand.specs.declared.DemandAnswer.the-variants as demand
+use Rattle.demand.specs.declared.MarginAnswer.{MarginAnswer}
 use Rattle.verdict.specs.Promise.{VerdictSays}
 use Rattle.verdict.specs.declared.Answer.{Answer}
 use Rattle.verdict.specs.declared.Answer.the-variants as verdict
@@ -40,3 +42,9 @@ HandlerTold t h l out = DemandTold (askedRefusal t h l) (handled (handlersOf h) 
 
 abbrev pub TaskTold : List ℕ → List ℕ → ℕ → List ℕ → Type 0
 TaskTold t h l out = DemandTold (askedRefusal t h l) (due (tasksOf t) l) out
+
+pub record MarginTold (t h : List ℕ) (l number : ℕ) (out : ℤ) : Type 0 where
+  pub answer : MarginAnswer
+  pub says : MarginSays (askedRefusal t h l) (tasksOf t) (handlersOf h) l answer
+  pub code : number ≡ marginFigures answer .code
+  pub ticks : out ≡ marginFigures answer .ticks

@@ -1,7 +1,8 @@
 // The licensees' library: the demands and the verdict for C, with numbers and slices only at the boundary.
-ghost use Rattle.cowriedash.specs.Numbers.{verdictNumbers, demandNumbers, VerdictTold, HandlerTold, TaskTold};
+ghost use Rattle.cowriedash.specs.Numbers.{verdictNumbers, demandNumbers, VerdictTold, HandlerTold, TaskTold, MarginTold};
 ghost use mathlib.Core.Path.{_≡_};
 use demand::DemandAnswer;
+use demand::MarginAnswer;
 use verdict::Answer;
 
 // The six numbers of a verdict: 0 fits, 1 misses, 2 refused; then code, interval, handler, task, load.
@@ -65,4 +66,22 @@ pub extern "C" fn cowriedash_task_demand(
 {
     let answer = demand::task_demand(tasks, handlers, l);
     *out = demand_numbers(answer);
+}
+
+// The margin at l: the refusal's number or 0, and the ticks into out.
+#[no_mangle]
+pub extern "C" fn cowriedash_margin(tasks: &[u32], handlers: &[u32], l: u64, out: &mut i64) -> u32
+    ensures { λ r. ⌜ MarginTold (now (tasks .entry)) (now (handlers .entry)) l r (now (out .exit)) ⌝ }
+{
+    let answer = demand::margin(tasks, handlers, l);
+    match answer {
+        MarginAnswer::Ticks { ticks } => {
+            *out = ticks;
+            0
+        }
+        MarginAnswer::Refused { number } => {
+            *out = 0;
+            number
+        }
+    }
 }
