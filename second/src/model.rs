@@ -38,19 +38,6 @@ pub fn asked_refusal(tasks: &[u32], handlers: &[u32], l: u64) -> u32 {
     }
 }
 
-/// A(l): each handler called at tick 0 and every period after, before l.
-pub fn called(handlers: &[Row], l: u128) -> u128 {
-    let mut work = 0;
-    for h in handlers {
-        let mut at = 0;
-        while at < l {
-            work += h.cost;
-            at += h.period;
-        }
-    }
-    work
-}
-
 /// f(0), f(1), .., f(l), by the recurrence. The work called for grows with each arrival.
 pub fn handled(handlers: &[Row], l: u128) -> Vec<u128> {
     let mut f = vec![0];
