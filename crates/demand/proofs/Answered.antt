@@ -1,13 +1,12 @@
 -- Answers that meet their promises, and that a promise allows one answer only.
 use mathlib.Core.List.{List}
 use mathlib.Core.Path.{_≡_, refl, ap, sym, _∙_, subst}
-use borrow.Author.Tests.{eq-eqb, ne-eqb}
 use native.Mathlib.Omega.{arith}
 use Prim.Native.Nat.{ℕ, zero, suc}
-use lib.Dec.{eqb, eqb·suc-zero}
-use lib.IntN.{ℤ, pos}
-use Rattle.demand.specs.Answers.{Figures, figures, marginFigures, figuresBy, DemandSays, MarginSays}
-use Rattle.demand.specs.Demands.{margin, Negative, Fails}
+use lib.Dec.{eqb·suc-zero}
+use lib.IntN.{ℤ}
+use Rattle.demand.specs.Answers.{figures, marginFigures, figuresBy, DemandSays, MarginSays}
+use Rattle.demand.specs.Demands.{margin, Negative}
 use Rattle.demand.specs.Rows.{Row}
 use Rattle.demand.specs.declared.DemandAnswer.{DemandAnswer}
 use Rattle.demand.specs.declared.DemandAnswer.the-variants as demand

@@ -1,12 +1,12 @@
 -- Between two arrivals what is called for stays, so f grows by a formula; between two multiples of task periods D stays, so no length is the first to fail there.
 --   Until rs t x     no row of rs has a multiple of its period strictly between t and x
 --   Before rs t x    nor at x
-use mathlib.Core.List.{List, [], _∷_}
-use mathlib.Core.Path.{_≡_, refl, ap, sym, _∙_}
+use mathlib.Core.List.{List}
+use mathlib.Core.Path.{_≡_, ap, sym, _∙_}
 use native.Mathlib.Nat.{lt-div-mul-add}
 use native.Mathlib.Omega.{arith}
 use Prim.Native.Nat.{ℕ, suc, _+_, _*_, _/_, _≤_, _<_, min}
-use Rattle.demand.specs.Demands.{ceil, calledBy, dueBy, called, taken, handled, due, Passes}
+use Rattle.demand.specs.Demands.{calledBy, dueBy, called, taken, handled, due, Passes}
 use Rattle.demand.specs.Rows.{Row, Each, Positive}
 use Rattle.demand.proofs.Demands.{called-mono, handled-le-called, handled-gain}
 use Rattle.demand.proofs.Divide.{ceil-until, div-until, div-next}

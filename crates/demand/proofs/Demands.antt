@@ -1,15 +1,15 @@
 -- Laws of A, f and D for the crates above, so that nobody opens a definition.
 use mathlib.Core.List.{List, [], _∷_}
 use mathlib.Core.Logic.{_⊎_, inl, inr}
-use mathlib.Core.Path.{_≡_, refl, ap, sym, _∙_}
+use mathlib.Core.Path.{_≡_, refl, ap, _∙_}
 use native.Mathlib.Nat.{mul-zero, mul-le-mul-left, mul-add, div-eq-of-lt, eq-or-lt-of-le}
 use native.Mathlib.Omega.{arith}
-use Prim.Native.Nat.{ℕ, zero, suc, _+_, _-_, _*_, _/_, _≤_, _<_, min, max}
+use Prim.Native.Nat.{ℕ, suc, _+_, _-_, _*_, _/_, _≤_, _<_, min, max}
 use Rattle.demand.specs.Demands.{ceil, calledBy, dueBy, called, taken, handled, due, Passes, Fails}
-use Rattle.demand.specs.Rows.{Row, deadlineOf, total, Each, Positive, Valid}
+use Rattle.demand.specs.Rows.{Row, deadlineOf, total, Positive, Valid}
 use Rattle.demand.proofs.Divide.{jobs, jobs-plain, div-mono, div-sub, ceil-mono, ceil-zero, ceil-sub, le-or-lt}
 use Rattle.demand.proofs.Sums.{each-map, each-row, total-le, total-sub, total-zero}
-use Rattle.demand.proofs.Taken.{taken-zero, taken-next, taken-le, taken-step, taken-up, taken-gain, taken-grows, taken-le-called, taken-sub, taken-at-most, taken-attained, Attained}
+use Rattle.demand.proofs.Taken.{taken-zero, taken-next, taken-le, taken-gain, taken-grows, taken-le-called, taken-sub, taken-at-most, taken-attained, Attained}
 
 -- ---- row by row
 

@@ -1,9 +1,9 @@
 -- Under less: A, f and D are lower at every length, so what passed still passes.
-use mathlib.Core.List.{List, [], _∷_}
+use mathlib.Core.List.{List}
 use native.Mathlib.Nat.{mul-le-mul}
 use native.Mathlib.Omega.{arith}
 use Prim.Native.Nat.{ℕ, suc, _≤_, _<_}
-use Rattle.demand.specs.Demands.{calledBy, dueBy, called, taken, handled, due, Passes}
+use Rattle.demand.specs.Demands.{calledBy, dueBy, called, handled, due, Passes}
 use Rattle.demand.specs.Lighter.{Eased, Lighter}
 use Rattle.demand.specs.Lighter.Lighter.{none, dropped, eased}
 use Rattle.demand.specs.Rows.{Row, total, Positive}

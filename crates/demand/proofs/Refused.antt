@@ -2,17 +2,17 @@
 use mathlib.Core.Bool.{Bool, true, false, _||_}
 use mathlib.Core.List.{List, [], _∷_}
 use mathlib.Core.Logic.{_⊎_, inl, inr}
-use mathlib.Core.Path.{_≡_, refl, ap, sym, _∙_}
+use mathlib.Core.Path.{_≡_, refl, sym, _∙_}
 use native.Mathlib.Nat.{eq-zero-or-pos}
 use native.Mathlib.Omega.{arith}
 use borrow.Author.Tests.{ltb-false, eqb-false, le-ltb, lt-ltb}
-use Prim.Native.Nat.{ℕ, zero, suc, _≤_, _<_}
+use Prim.Native.Nat.{ℕ, suc, _≤_, _<_}
 use lib.Dec.{ltb, eqb}
 use lib.ListN.{length}
 use Rattle.demand.specs.Limits.{figureMost, tasksMost, handlersMost, ticksMost}
 use Rattle.demand.specs.Refusals.{odd, miscounted, outside, rowOutside, tableThen, tableRefusal, askedRefusal, Fair, FairRow, InRange}
 use Rattle.demand.specs.Rows.{Row, tasksOf, handlersOf, some, Each}
-use Rattle.demand.specs.Tests.{pick, refuse}
+use Rattle.demand.specs.Tests.{refuse}
 
 -- Neither of two tests holds.
 neither : (a b : Bool) → (a || b) ≡ false → (a ≡ false) × (b ≡ false)

@@ -1,10 +1,9 @@
 -- Totals over fair rows fit a word.
-use mathlib.Core.List.{List, [], _∷_}
-use mathlib.Core.Path.{_≡_, subst}
-use native.Mathlib.Nat.{mul-le-mul, div-le-self, le-trans, div-mul-le-self}
+use mathlib.Core.List.{List}
+use mathlib.Core.Path.{_≡_}
+use native.Mathlib.Nat.{mul-le-mul, div-le-self, le-trans}
 use native.Mathlib.Omega.{arith}
-use Prim.Native.Nat.{ℕ, suc, _+_, _-_, _*_, _/_, _≤_, _<_, min}
-use lib.ListN.{length}
+use Prim.Native.Nat.{ℕ, _-_, _≤_}
 use Rattle.demand.specs.Demands.{calledBy, dueBy, called, due}
 use Rattle.demand.specs.Limits.{ticksMost}
 use Rattle.demand.specs.Refusals.{tableRefusal, askedRefusal, FairRow}

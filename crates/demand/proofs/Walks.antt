@@ -1,14 +1,14 @@
 -- Laws of the walk from one multiple of a period to the next.
 use mathlib.Core.List.{List, [], _∷_}
-use mathlib.Core.Path.{_≡_, refl, ap, sym, _∙_}
+use mathlib.Core.Path.{_≡_, ap, sym, _∙_}
 use native.Mathlib.Nat.{lt-div-mul-add, add-zero, add-suc}
 use native.Mathlib.Numerals.{add-one}
 use native.Mathlib.Omega.{arith}
 use Prim.Native.Nat.{ℕ, zero, suc, _+_, _-_, _*_, _/_, _≤_, _<_, min}
 use Rattle.demand.specs.Demands.{called, handled, due, Passes}
-use Rattle.demand.specs.Rows.{Row, Each, Positive}
+use Rattle.demand.specs.Rows.{Row, Positive}
 use Rattle.demand.specs.Walk.{nextMultiple}
-use Rattle.demand.proofs.Between.{Until, Before, until-less, handled-jump, due-before, passes-flat}
+use Rattle.demand.proofs.Between.{Until, handled-jump, due-before, passes-flat}
 use Rattle.demand.proofs.Demands.{called-mono, handled-next, handled-le-called}
 use Rattle.demand.proofs.Sums.{each-map}
 

@@ -2,7 +2,6 @@
 --   figures, marginFigures     == the paper's number and value for each case of an answer: a refusal's number with 0 beside it
 --   DemandSays k n r           the answer r to a demand of n ticks where the refusal is k, 0 for none
 --   MarginSays k ts hs l r     the answer r to the margin at l where the refusal is k, 0 for none
-use mathlib.Core.Bool.{Bool}
 use mathlib.Core.List.{List}
 use mathlib.Core.Path.{_≡_}
 use Prim.Native.Nat.{ℕ}

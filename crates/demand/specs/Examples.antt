@@ -1,7 +1,7 @@
 -- Figures of 01's "Sums done by hand", and the two shortcuts that are not f (01, "Shortcuts that give a wrong sheet"), worked out from the definitions.
 --   formulaTwo l r   == document 001, formula 2: what bounds one handler apart
-use lib.IntN.{ℤ, negsuc}
-use mathlib.Core.List.{List, [], _∷_}
+use lib.IntN.{negsuc}
+use mathlib.Core.List.{[], _∷_}
 use mathlib.Core.Path.{_≡_, refl}
 use Prim.Native.Nat.{ℕ, _+_, _*_, _/_, _%_, min}
 use Rattle.demand.specs.Demands.{called, grow, taken, handled, due, margin}

@@ -12,7 +12,6 @@ use Rattle.verdict.specs.Facts.{PassesTo, FoundAt, FoundSays, endBy, sea
 use Rattle.verdict.specs.Loads.{work, whole, costs, nearest, load}
 use Rattle.verdict.specs.Multiples.{period, capped}
 use Rattle.verdict.specs.Promise.{figures, verdictRefusal, SaysBy, Says, VerdictSays}
-use Rattle.verdict.specs.declared.Answer.{Answer}
 use Rattle.verdict.specs.declared.Answer.the-variants as answer
 use Rattle.verdict.specs.declared.search.Found.{Found}
 use Rattle.verdict.specs.declared.search.Found.the-variants as found

@@ -6,7 +6,7 @@
 use mathlib.Core.List.{List, [], _∷_}
 use mathlib.Core.Path.{_≡_}
 use Prim.Native.Nat.{ℕ}
-use Rattle.verdict.specs.Promise.{Figures, Word, figures, Says, VerdictSays}
+use Rattle.verdict.specs.Promise.{Figures, figures, Says, VerdictSays}
 use Rattle.verdict.specs.Promise.Word.{fits, misses, refused}
 use Rattle.verdict.specs.declared.Answer.{Answer}
 

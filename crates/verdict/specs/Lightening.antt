@@ -5,7 +5,7 @@ use mathlib.Core.Path.{_≡_}
 use Prim.Native.Nat.{ℕ}
 use Rattle.demand.specs.Lighter.{Lighter}
 use Rattle.demand.specs.Rows.{tasksOf, handlersOf}
-use Rattle.verdict.specs.Promise.{Figures, Word, figures, verdictRefusal, VerdictSays}
+use Rattle.verdict.specs.Promise.{figures, verdictRefusal, VerdictSays}
 use Rattle.verdict.specs.Promise.Word.{fits}
 use Rattle.verdict.specs.declared.Answer.{Answer}
 

@@ -1,4 +1,4 @@
-use mathlib.Core.Path.{_≡_, sym, ap, _∙_}
+use mathlib.Core.Path.{sym, ap, _∙_}
 use mir.Syntax.{w64}
 use mir.ValLaws.{toZ-ofZ}
 use Rattle.demand.specs.Answers.{marginFigures}
@@ -6,9 +6,6 @@ use Rattle.demand.specs.declared.MarginAnswer.{MarginAnswer}
 use borrow.Author.Needs.{needs}
 use Rattle.cowriedash.proofs.cowriedash_margin.Statement.{statement}
 use Rattle.cowriedash.proofs.cowriedash_margin.Tie as tie
-use Rattle.cowriedash.proofs.cowriedash_margin.Reads as reads
-use Rattle.cowriedash.proofs.cowriedash_margin.Lts as lts
-use Rattle.demand.proofs.margin.Reads as margin-reads
 
 margin-requires : tie.Need-margin-requires
 margin-requires c κs = search needs

@@ -1,10 +1,8 @@
-use mathlib.Core.Path.{_≡_, sym, ap}
+use mathlib.Core.Path.{sym, ap}
 use Rattle.cowriedash.specs.Numbers.{demandNumbers}
 use borrow.Author.Needs.{needs}
 use Rattle.cowriedash.proofs.demand_numbers.Statement.{statement}
 use Rattle.cowriedash.proofs.demand_numbers.Tie as tie
-use Rattle.cowriedash.proofs.demand_numbers.Reads as reads
-use Rattle.cowriedash.proofs.demand_numbers.Lts as lts
 
 enum-known-answer : tie.Need-enum-known-answer
 enum-known-answer c = search needs

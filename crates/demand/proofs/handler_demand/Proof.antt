@@ -1,14 +1,10 @@
-use mathlib.Core.Path.{_≡_, sym, _∙_}
+use mathlib.Core.Path.{sym, _∙_}
 use native.Mathlib.Omega.{arith}
 use Rattle.demand.proofs.Answered.{demand-answered, demand-refused}
 use Rattle.demand.proofs.Demands.{handled-zero}
 use borrow.Author.Needs.{needs}
 use Rattle.demand.proofs.handler_demand.Statement.{statement}
 use Rattle.demand.proofs.handler_demand.Tie as tie
-use Rattle.demand.proofs.handler_demand.Reads as reads
-use Rattle.demand.proofs.handler_demand.Lts as lts
-use Rattle.demand.proofs.readable.handled.Reads as handled-reads
-use Rattle.demand.proofs.refusal.of_question.Reads as of-question-reads
 
 of-question-requires : tie.Need-of-question-requires
 of-question-requires c κs = search needs

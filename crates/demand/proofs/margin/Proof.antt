@@ -1,8 +1,8 @@
-use mathlib.Core.Path.{_≡_, sym, _∙_}
+use mathlib.Core.Path.{sym, _∙_}
 use mir.Syntax.{w64}
 use mir.ValLaws.{toZ-ofZ}
 use native.Mathlib.Omega.{arith}
-use Rattle.demand.specs.Rows.{tasksOf, handlersOf}
+use Rattle.demand.specs.Rows.{handlersOf}
 use Rattle.demand.proofs.Answered.{margin-answered, margin-refused}
 use Rattle.demand.proofs.Demands.{handled-zero, handled-le}
 use Rattle.demand.proofs.Signs.{margin-read}
@@ -10,12 +10,6 @@ use Rattle.demand.proofs.Sizes.{tasks-small, due-most}
 use borrow.Author.Needs.{needs}
 use Rattle.demand.proofs.margin.Statement.{statement}
 use Rattle.demand.proofs.margin.Tie as tie
-use Rattle.demand.proofs.margin.Reads as reads
-use Rattle.demand.proofs.margin.Lts as lts
-use Rattle.demand.proofs.readable.due.Reads as due-reads
-use Rattle.demand.proofs.readable.handled.Reads as handled-reads
-use Rattle.demand.proofs.refusal.of_question.Reads as of-question-reads
-use Rattle.demand.proofs.signed.less_both.Reads as less-both-reads
 
 of-question-requires : tie.Need-of-question-requires
 of-question-requires c κs = search needs

@@ -1,12 +1,8 @@
-use mathlib.Core.Path.{_≡_, sym, _∙_}
+use mathlib.Core.Path.{sym, _∙_}
 use Rattle.demand.proofs.Answered.{demand-answered, demand-refused}
 use borrow.Author.Needs.{needs}
 use Rattle.demand.proofs.task_demand.Statement.{statement}
 use Rattle.demand.proofs.task_demand.Tie as tie
-use Rattle.demand.proofs.task_demand.Reads as reads
-use Rattle.demand.proofs.task_demand.Lts as lts
-use Rattle.demand.proofs.readable.due.Reads as due-reads
-use Rattle.demand.proofs.refusal.of_question.Reads as of-question-reads
 
 of-question-requires : tie.Need-of-question-requires
 of-question-requires c κs = search needs

@@ -1,22 +1,10 @@
-use mathlib.Core.Path.{_≡_, sym, _∙_}
 use native.Mathlib.Omega.{arith}
-use Rattle.demand.specs.Rows.{tasksOf, handlersOf}
 use Rattle.demand.proofs.Sizes.{small-less}
-use Rattle.verdict.specs.Facts.{FoundSays}
-use Rattle.verdict.proofs.Ends.{end-le}
-use Rattle.verdict.proofs.Loads.{work-most, costs-most}
-use Rattle.verdict.proofs.Readable.{readable-table, readable-period, period-small}
+use Rattle.verdict.proofs.Readable.{readable-table, period-small}
 use Rattle.verdict.proofs.Sayings.{load-read, end-read, whole-most, costs-fit, end-fits, says-fits, says-misses}
 use borrow.Author.Needs.{needs}
 use Rattle.verdict.proofs.judged.Statement.{statement}
 use Rattle.verdict.proofs.judged.Tie as tie
-use Rattle.verdict.proofs.judged.Reads as reads
-use Rattle.verdict.proofs.judged.Lts as lts
-use Rattle.verdict.proofs.load.costs.Reads as costs-reads
-use Rattle.verdict.proofs.load.of_work.Reads as of-work-reads
-use Rattle.verdict.proofs.load.work.Reads as work-reads
-use Rattle.verdict.proofs.search.end_of.Reads as end-of-reads
-use Rattle.verdict.proofs.search.first_failing.Reads as first-failing-reads
 
 work-requires : tie.Need-work-requires
 work-requires c κs = period-small _ _ (c .before .before .pre .0) _ (c .before .before .pre .1) .1

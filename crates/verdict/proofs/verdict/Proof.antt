@@ -1,15 +1,9 @@
-use mathlib.Core.Path.{_≡_, sym, _∙_}
 use native.Mathlib.Nat.{pos-of-ne-zero}
 use native.Mathlib.Omega.{arith}
 use Rattle.verdict.proofs.Sayings.{says-refused, says-refused-4, says-readable}
 use borrow.Author.Needs.{needs}
 use Rattle.verdict.proofs.verdict.Statement.{statement}
 use Rattle.verdict.proofs.verdict.Tie as tie
-use Rattle.verdict.proofs.verdict.Reads as reads
-use Rattle.verdict.proofs.verdict.Lts as lts
-use Rattle.demand.proofs.refusal.of_table.Reads as refusal-of-table-reads
-use Rattle.verdict.proofs.judged.Reads as judged-reads
-use Rattle.verdict.proofs.multiples.of_table.Reads as multiples-of-table-reads
 
 of-table-requires : tie.Need-of-table-requires
 of-table-requires c κs = search needs

@@ -1,10 +1,7 @@
-use native.Mathlib.Omega.{arith}
 use Prim.Native.Nat.{_-_, _≤_}
 use borrow.Author.Needs.{needs}
 use Rattle.verdicts.proofs.alike.Statement.{statement}
 use Rattle.verdicts.proofs.alike.Tie as tie
-use Rattle.verdicts.proofs.alike.Reads as reads
-use Rattle.verdicts.proofs.alike.Lts as lts
 
 abbrev Inv-loop : tie.InvT-loop
 Inv-loop cost period rows₀ i₀ rows i = i ≤ 129

@@ -2,9 +2,6 @@ use lib.ListN.{length-take}
 use borrow.Author.Needs.{needs}
 use Rattle.verdicts.proofs.judge_many.Statement.{statement}
 use Rattle.verdicts.proofs.judge_many.Tie as tie
-use Rattle.verdicts.proofs.judge_many.Reads as reads
-use Rattle.verdicts.proofs.judge_many.Lts as lts
-use Rattle.verdicts.proofs.judge.Reads as judge-reads
 
 slice-aggregate-judge : tie.Need-slice-aggregate-judge
 slice-aggregate-judge c = search needs

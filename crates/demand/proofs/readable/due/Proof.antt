@@ -2,9 +2,6 @@ use Rattle.demand.proofs.Sizes.{tasks-small}
 use borrow.Author.Needs.{needs}
 use Rattle.demand.proofs.readable.due.Statement.{statement}
 use Rattle.demand.proofs.readable.due.Tie as tie
-use Rattle.demand.proofs.readable.due.Reads as reads
-use Rattle.demand.proofs.readable.due.Lts as lts
-use Rattle.demand.proofs.rows.due.Reads as due-reads
 
 due-requires : tie.Need-due-requires
 due-requires c κs = tasks-small _ _ _ (c .before .before .pre)

@@ -2,9 +2,6 @@ use Rattle.demand.proofs.Sizes.{handlers-small}
 use borrow.Author.Needs.{needs}
 use Rattle.demand.proofs.readable.handled.Statement.{statement}
 use Rattle.demand.proofs.readable.handled.Tie as tie
-use Rattle.demand.proofs.readable.handled.Reads as reads
-use Rattle.demand.proofs.readable.handled.Lts as lts
-use Rattle.demand.proofs.readable.handled_on.Reads as handled-on-reads
 
 handled-on-requires : tie.Need-handled-on-requires
 handled-on-requires c κs = (handlers-small _ _ _ (c .before .before .pre .0), c .before .before .pre .1)

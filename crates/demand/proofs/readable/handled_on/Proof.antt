@@ -8,11 +8,6 @@ use Rattle.demand.proofs.Sizes.{fair-positive, small-less}
 use Rattle.demand.proofs.Walks.{next-above, next-within, walk-busy, walk-idle}
 use Rattle.demand.proofs.readable.handled_on.Statement.{statement}
 use Rattle.demand.proofs.readable.handled_on.Tie as tie
-use Rattle.demand.proofs.readable.handled_on.Reads as reads
-use Rattle.demand.proofs.readable.handled_on.Lts as lts
-use Rattle.demand.proofs.rows.lesser.Reads as lesser-reads
-use Rattle.demand.proofs.rows.called.Reads as called-reads
-use Rattle.demand.proofs.rows.next_multiple.Reads as next-multiple-reads
 
 abbrev Inv-loop : tie.InvT-loop
 Inv-loop handlers l f m at₀ taken₀ at taken = (at ≤ m) × (taken ≡ handled (handlersOf handlers) at)

@@ -1,8 +1,6 @@
 use Rattle.demand.proofs.Slices.{rows-count}
 use Rattle.demand.proofs.refusal.miscounted.Statement.{statement}
 use Rattle.demand.proofs.refusal.miscounted.Tie as tie
-use Rattle.demand.proofs.refusal.miscounted.Reads as reads
-use Rattle.demand.proofs.refusal.miscounted.Lts as lts
 
 returns : tie.Need-returns
 returns c = rw (rows-count (c .args .tasks .now), rows-count (c .args .handlers .now))

@@ -1,11 +1,8 @@
-use mathlib.Core.Path.{_≡_, sym, _∙_}
+use mathlib.Core.Path.{sym, _∙_}
 use Rattle.demand.proofs.Refused.{asked-zero, asked-5, asked-table}
 use borrow.Author.Needs.{needs}
 use Rattle.demand.proofs.refusal.of_question.Statement.{statement}
 use Rattle.demand.proofs.refusal.of_question.Tie as tie
-use Rattle.demand.proofs.refusal.of_question.Reads as reads
-use Rattle.demand.proofs.refusal.of_question.Lts as lts
-use Rattle.demand.proofs.refusal.of_table.Reads as of-table-reads
 
 of-table-requires : tie.Need-of-table-requires
 of-table-requires c κs = search needs

@@ -1,13 +1,7 @@
-use mathlib.Core.Path.{_≡_, sym}
 use Rattle.demand.proofs.Refused.{table-1, table-2, table-3, table-0}
 use borrow.Author.Needs.{needs}
 use Rattle.demand.proofs.refusal.of_table.Statement.{statement}
 use Rattle.demand.proofs.refusal.of_table.Tie as tie
-use Rattle.demand.proofs.refusal.of_table.Reads as reads
-use Rattle.demand.proofs.refusal.of_table.Lts as lts
-use Rattle.demand.proofs.refusal.miscounted.Reads as miscounted-reads
-use Rattle.demand.proofs.refusal.odd.Reads as odd-reads
-use Rattle.demand.proofs.refusal.some_outside.Reads as some-outside-reads
 
 odd-requires : tie.Need-odd-requires
 odd-requires c κs = search needs

@@ -1,4 +1,4 @@
-use mathlib.Core.Path.{_≡_, refl, sym, ap, subst, _∙_}
+use mathlib.Core.Path.{_≡_, _∙_}
 use lib.ListN.{length}
 use native.Mathlib.Nat.{div-le-self, div-mul-le-self}
 use native.Mathlib.Omega.{arith}
@@ -8,10 +8,6 @@ use Rattle.demand.specs.Walk.{nextMultiple, Small}
 use Rattle.demand.proofs.Slices.{from, from-zero, from-length, fair-head, next-turn, small-turn, next-over}
 use Rattle.demand.proofs.rows.next_multiple.Statement.{statement}
 use Rattle.demand.proofs.rows.next_multiple.Tie as tie
-use Rattle.demand.proofs.rows.next_multiple.Reads as reads
-use Rattle.demand.proofs.rows.next_multiple.Lts as lts
-use Rattle.demand.proofs.readable.head.Reads as head-reads
-use Rattle.demand.proofs.rows.lesser.Reads as lesser-reads
 
 abbrev Inv-loop : tie.InvT-loop
 Inv-loop s at top first₀ i₀ first i = (i ≤ length s) × (nextMultiple (rowsOf (from i s)) at first ≡ nextMultiple (rowsOf s) at top) × Small (rowsOf (from i s)) at

@@ -5,8 +5,6 @@ use Rattle.demand.proofs.Signs.{first-fits, both-fits, both-is}
 use borrow.Author.Needs.{needs}
 use Rattle.demand.proofs.signed.less_both.Statement.{statement}
 use Rattle.demand.proofs.signed.less_both.Tie as tie
-use Rattle.demand.proofs.signed.less_both.Reads as reads
-use Rattle.demand.proofs.signed.less_both.Lts as lts
 
 cast-result : tie.Need-cast-result
 cast-result c = search needs

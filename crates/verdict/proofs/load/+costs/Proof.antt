@@ -1,5 +1,5 @@
 use Rattle.demand.specs.Rows.{rowsOf}
-use mathlib.Core.Path.{_≡_, sym}
+use mathlib.Core.Path.{sym}
 use lib.ListN.{length}
 use native.Mathlib.Omega.{arith}
 use Rattle.demand.proofs.Slices.{rest-length, small-rest}

@@ -1,6 +1,5 @@
 use Rattle.verdict.proofs.Divisors.{lcm-positive}
 use Rattle.verdict.proofs.Heads.{lcm-read, lcm-fits}
-use mathlib.Core.Path.{_≡_, sym}
 use lib.ListN.{length}
 use native.Mathlib.Omega.{arith}
 use Rattle.demand.proofs.Slices.{rest-length}

@@ -1,13 +1,10 @@
-use mathlib.Core.Path.{_≡_, sym, _∙_}
+use mathlib.Core.Path.{sym, _∙_}
 use native.Mathlib.Nat.{pos-of-ne-zero}
 use native.Mathlib.Omega.{arith}
 use Rattle.demand.proofs.Refused.{refusal-in-range}
 use Rattle.verdict.proofs.Heads.{period-over, tasks-multiple, period-read}
 use Rattle.verdict.proofs.multiples.of_table.Statement.{statement}
 use Rattle.verdict.proofs.multiples.of_table.Tie as tie
-use Rattle.verdict.proofs.multiples.of_table.Reads as reads
-use Rattle.verdict.proofs.multiples.of_table.Lts as lts
-use Rattle.verdict.proofs.multiples.lcm_from.Reads as lcm-from-reads
 
 lcm-from-requires : tie.Need-lcm-from-requires
 lcm-from-requires c κs = (refusal-in-range _ _ (c .before .before .pre) .tasks, omega arith, omega arith)

@@ -6,8 +6,6 @@ use Rattle.verdict.specs.Facts.{endBy}
 use borrow.Author.Needs.{needs}
 use Rattle.verdict.proofs.search.end_of.Statement.{statement}
 use Rattle.verdict.proofs.search.end_of.Tie as tie
-use Rattle.verdict.proofs.search.end_of.Reads as reads
-use Rattle.verdict.proofs.search.end_of.Lts as lts
 
 returns : tie.Need-returns
 unfolding endBy

@@ -12,11 +12,6 @@ use Rattle.verdict.specs.Facts.{PassesTo, FoundSays}
 use Rattle.verdict.proofs.Searching.{passes-start, passes-out, passes-on, fails-first}
 use Rattle.verdict.proofs.search.first_failing.Statement.{statement}
 use Rattle.verdict.proofs.search.first_failing.Tie as tie
-use Rattle.verdict.proofs.search.first_failing.Reads as reads
-use Rattle.verdict.proofs.search.first_failing.Lts as lts
-use Rattle.demand.proofs.readable.due.Reads as due-reads
-use Rattle.demand.proofs.readable.handled.Reads as handled-reads
-use Rattle.demand.proofs.readable.next_length.Reads as next-length-reads
 
 abbrev Inv-loop : tie.InvT-loop
 Inv-loop tasks handlers end l₀ f₀ l f = (l ≤ end) × (f ≡ handled (handlersOf handlers) l) × PassesTo (tasksOf tasks) (handlersOf handlers) l
