@@ -1,0 +1,4 @@
+// A stand-in until the run, fresh and step come.
+pub fn keep(x: usize) -> usize {
+    x
+}
