@@ -1,0 +1,3 @@
+pub mod Sync
+pub mod Room
+pub mod Invariant
