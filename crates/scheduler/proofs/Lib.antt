@@ -1,3 +1,4 @@
 pub mod Sync
 pub mod Room
 pub mod Invariant
+pub mod FullArrivals
