@@ -2,3 +2,4 @@ pub mod Sync
 pub mod Room
 pub mod Invariant
 pub mod FullArrivals
+pub mod Beats
