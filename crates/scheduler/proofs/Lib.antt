@@ -3,3 +3,5 @@ pub mod Room
 pub mod Invariant
 pub mod FullArrivals
 pub mod Beats
+pub mod No
+pub mod Least
