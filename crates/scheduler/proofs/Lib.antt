@@ -5,3 +5,6 @@ pub mod FullArrivals
 pub mod Beats
 pub mod No
 pub mod Least
+pub mod Choice
+pub mod Flat
+pub mod FlatArrive
