@@ -8,3 +8,4 @@ pub mod Least
 pub mod Choice
 pub mod Flat
 pub mod FlatArrive
+pub mod Examples
