@@ -39,10 +39,12 @@ beats-length t (r ∷ rs) = ap suc (beats-length t rs)
 
 -- ---- the two arrivals are the same
 
+-- A row without a cost brings nothing, by the test of full arrivals ..
 share-none : (k : ℕ) → share k 0 ≡ 0
 share-none zero = refl
 share-none (suc k) = refl
 
+-- .. and by the test of the clock.
 pick-none : (b : Bool) → test.pick {A = ℕ} b 0 0 ≡ 0
 pick-none true = refl
 pick-none false = refl
@@ -77,6 +79,7 @@ full-beat t x b = by-cost (x .row .cost) refl
             rw (eq-eqb (t % p) 0 divides) (share-in (suc t) (x .next) (suc c) (omega arith))
         go (inr h) = rw (ne-eqb (t % p) 0 (λ divides. between t (x .next) p h (b .near pos) (b .whole pos) divides)) (share-out (suc t) (x .next) (suc c) h)
 
+-- So for all rows.
 pub full-beats : (t : ℕ) (xs : List Live) → OnBeats t xs → full t xs ≡ beats t (tableOf xs)
 unfolding full beats tableOf
 full-beats t [] b = refl
@@ -102,6 +105,7 @@ row-beats t (suc w) x p b e =
           add-mod-right t (x .row .period) ∙ (rw now at (b .whole c));
     }
 
+-- So for all rows.
 pub beats-arrived : (t : ℕ) (xs : List Live) → Positive (tableOf xs) → OnBeats t xs → OnBeats (suc t) (arrived t xs)
 unfolding arriveAll full tableOf
 beats-arrived t [] p b = tt
@@ -129,9 +133,11 @@ pub record Beating (ts hs : List Row) (t : ℕ) (xs ys : List Live) : Type 0 whe
   pub handlers-beat : OnBeats t ys
 
 module _ (ts hs : List Row) {t : ℕ} {xs ys : List Live} (on : Beating ts hs t xs ys) where
+  -- On beat, the full arrivals are those by the clock: of tasks ..
   pub tasks-full-beats : full t xs ≡ beats t ts
   tasks-full-beats = full-beats t xs (on .tasks-beat) ∙ ap (beats t) (on .tasks-are)
 
+  -- .. and of handlers.
   pub handlers-full-beats : full t ys ≡ beats t hs
   handlers-full-beats = full-beats t ys (on .handlers-beat) ∙ ap (beats t) (on .handlers-are)
 

@@ -58,12 +58,13 @@ module _ (key : Live → ℕ) where
       go (suc o) zero f g rest = absurd (omega (arith, some-before (key y) xs x ys (omega arith) (above .0 (omega arith))))
       go (suc o) (suc b) f g rest = rw rest
 
--- The same of handlers: nobody is owed work and nobody runs, or the first that is.
+-- The same of handlers: nobody is owed work and nobody runs.
 pub serve-idle : (xs : List Live) → Idle xs → serve xs ≡ xs
 unfolding serve
 serve-idle [] h = refl
 serve-idle (x ∷ xs) h = rw (h .0, serve-idle xs (h .1))
 
+-- The handler that runs: above it none is owed work.
 pub serve-runs : (xs : List Live) (x : Live) (ys : List Live) (n : ℕ) → x .owed ≡ suc n → Idle xs → serve (xs ++ (x ∷ ys)) ≡ xs ++ (left n x ∷ ys)
 unfolding serve
 serve-runs [] x ys n e idle = rw e

@@ -4,7 +4,7 @@ use mathlib.Core.Logic.{_⊎_, inl, inr}
 use mathlib.Core.Path.{_≡_, refl, subst, sym}
 use native.Mathlib.Nat.{eq-or-lt-of-le}
 use native.Mathlib.Omega.{arith}
-use Prim.Native.Nat.{ℕ, zero, suc, _+_, _≤_, _<_}
+use Prim.Native.Nat.{ℕ, zero, suc, _+_, _<_}
 use Rattle.demand.specs.Rows.{Row}
 use Rattle.scheduler.specs.Machine.{Live, State, dueOf, idle, arriveAll, owedAll, beforeBy, before, serve, pick, tickBy, OnTime}
 use Rattle.scheduler.specs.Schedules.{beats, syncBy, sync}
@@ -47,6 +47,7 @@ overdue : ℕ → ℕ
 overdue zero = 0
 overdue (suc n) = before (suc n) (sync n tasks handlers .tasks) + overdue n
 
+-- None over all of them: none at each.
 none-overdue : (n : ℕ) → overdue n ≡ 0 → (m : ℕ) → m < n → before (suc m) (sync m tasks handlers .tasks) ≡ 0
 unfolding overdue
 none-overdue zero e m h = absurd (omega arith)
@@ -56,6 +57,7 @@ none-overdue (suc n) e m h = go (eq-or-lt-of-le {n = m} {m = n} (omega arith)) (
     go (inl same) rest = subst (λ (c : ℕ). before (suc c) (sync c tasks handlers .tasks) ≡ 0) (sym same) (omega arith)
     go (inr l) rest = rest l
 
+-- Over the first ten clocks, 0 to 9, there is none.
 overdue-9 : overdue 10 ≡ 0
 unfolding overdue tasks handlers syncBy tickBy beats idle arriveAll owedAll beforeBy serve pick
 overdue-9 = refl
@@ -81,6 +83,7 @@ state-10 : sync 10 tasks handlers
 unfolding task-0 tasks handlers syncBy tickBy beats idle arriveAll owedAll beforeBy serve pick
 state-10 = refl
 
+-- So the run is late there.
 late-10 : ¬ OnTime 10 (sync 10 tasks handlers .tasks)
 unfolding task-0
 late-10 on =

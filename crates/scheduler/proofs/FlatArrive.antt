@@ -72,6 +72,7 @@ legal-one : (t w : ℕ) (x : Live) → (0 < w → (x .next ≤ t) × (w ≤ x .r
 legal-one t zero x h = tt
 legal-one t (suc w) x h = h (omega arith)
 
+-- So for all places.
 pub legal-flat : (t : ℕ) (ws : List ℕ) (rs : List Row) (ns os : List ℕ)
     → ((j : ℕ) → j < length ws → 0 < getD ws j 0 → (getD ns j 0 ≤ t) × (getD ws j 0 ≤ rowAt rs j .cost)) → LegalAll t ws (liveOf rs ns os)
 unfolding liveOf

@@ -7,7 +7,7 @@ use mathlib.Core.Logic.{_⊎_, inl, inr}
 use mathlib.Core.Path.{_≡_, refl}
 use native.Mathlib.Nat.{mul-zero, mul-suc, mul-le-mul-left, div-eq-of-lt-le}
 use native.Mathlib.Omega.{arith}
-use Prim.Native.Nat.{ℕ, zero, suc, _+_, _-_, _*_, _≤_, _<_}
+use Prim.Native.Nat.{ℕ, zero, suc, _+_, _-_, _≤_, _<_}
 use Rattle.demand.specs.Demands.{ceil}
 use Rattle.demand.specs.Rows.{Row, deadlineOf, Positive, Sound, Valid}
 use Rattle.demand.proofs.Divide.{jobs, le-or-lt, jobs-arrive, jobs-none, ceil-mono, ceil-sub}
@@ -45,6 +45,7 @@ full-legal-row t (suc w) x e =
     let some : (x .next ≤ t) × (x .row .cost ≡ suc w) = full-some t (x .next) (x .row .cost) w e in
     (some .0, omega (arith, some .1))
 
+-- So for all rows.
 pub full-legal : (t : ℕ) (xs : List Live) → LegalAll t (full t xs) xs
 unfolding full
 full-legal t [] = tt
@@ -61,6 +62,7 @@ row-settled : (t w : ℕ) (x : Live) → Sound (x .row) → (dueOf x ≤ t → x
 row-settled t zero x sound s h = s h
 row-settled t (suc w) x sound s h = absurd (omega (arith, sound))
 
+-- So for all tasks.
 pub settled-arrive : (t : ℕ) (ws : List ℕ) (xs : List Live) → Valid (tableOf xs) → Settled t xs → Settled t (arriveAll t ws xs)
 unfolding arriveAll tableOf
 settled-arrive t [] xs v s = s
@@ -133,6 +135,7 @@ task-full t k (suc w) x sound settled e = go (le-or-lt d k)
         (omega (arith, some, mul-suc c (jobs (k - p) d p)))
     go (inr h) = rw (was, now, jobs-none k d p h (sound .fits), mul-zero c) (omega arith)
 
+-- So for all tasks.
 pub tasks-full : (t k : ℕ) (xs : List Live) → Valid (tableOf xs) → Settled t xs
     → before (suc (t + k)) xs + future t k xs ≤ before (suc (t + k)) (arrived t xs) + future t k (arrived t xs)
 unfolding arriveAll full beforeBy future tableOf
@@ -166,6 +169,7 @@ handler-full t l (suc w) x pos e =
       mul-le-mul-left (x .row .cost) (ceil-leave (x .row .period) l pos),
     ))
 
+-- So for all handlers.
 pub handlers-full : (t l : ℕ) (xs : List Live) → Positive (tableOf xs) → callable t xs l ≤ callable t (arrived t xs) l
 unfolding arriveAll full callable tableOf
 handlers-full t l [] pos = omega arith

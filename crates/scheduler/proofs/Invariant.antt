@@ -5,7 +5,7 @@ use mathlib.Core.Path.{_≡_, refl, _∙_}
 use native.Mathlib.Nat.{zero-add, add-zero}
 use native.Mathlib.Omega.{arith}
 use Prim.Native.Nat.{ℕ, zero, suc, _+_, _-_, _≤_, _<_}
-use Rattle.demand.specs.Demands.{called, taken, handled, due, Passes}
+use Rattle.demand.specs.Demands.{called, taken, due, Passes}
 use Rattle.demand.specs.Rows.{Row, deadlineOf, Positive, Valid}
 use Rattle.demand.proofs.Demands.{handled-taken, passes-zero}
 use Rattle.demand.proofs.Taken.{taken-mono, taken-shift, taken-shift-suc}
@@ -35,6 +35,7 @@ module _ (choose : List Live → List Live) where
   given-clock zero t xs ys = refl
   given-clock (suc o) t xs ys = refl
 
+  -- So for the tick and its arrivals.
   pub tick-clock : (a : Arrivals) (s : State) → tickBy choose a s .clock ≡ suc (s .clock)
   unfolding tickBy
   tick-clock a s =
@@ -62,6 +63,7 @@ idle-owed (r ∷ rs) = omega (arith, idle-owed rs)
 
 -- ---- nobody is late where nothing is due
 
+-- Nothing due by t: no task is owed work at t.
 pub on-time : (t : ℕ) (xs : List Live) → before (suc t) xs ≡ 0 → OnTime t xs
 unfolding beforeBy
 on-time t [] none = tt

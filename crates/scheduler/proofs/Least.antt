@@ -8,7 +8,7 @@ use Prim.Native.Nat.{ℕ, zero, suc, _≤_, _<_}
 use Rattle.demand.specs.Demands.{Passes, Fails}
 use Rattle.demand.specs.Rows.{Row, Positive, Valid}
 use Rattle.demand.proofs.Sums.{valid-positive}
-use Rattle.scheduler.specs.Machine.{Live, State, dueOf, arriveAll, owedAll, pick, givenBy, tickBy, LegalAll, LegalTick, OnTime}
+use Rattle.scheduler.specs.Machine.{Live, State, dueOf, arriveAll, owedAll, pick, tickBy, LegalAll, LegalTick, OnTime}
 use Rattle.scheduler.specs.Schedules.{beats, beatsAt, Ran, Gave, Timely, start, onward, syncBy, sync}
 use Rattle.scheduler.proofs.Beats.{Beating, beating-fresh, beating-gave, beating-legal}
 use Rattle.scheduler.proofs.Invariant.{tick-clock, safe-on-time, Kept, fresh-kept, tick-kept}
@@ -17,28 +17,29 @@ use Rattle.scheduler.proofs.Sync.{pick-ran, given-gave}
 
 -- ---- for any pick that only runs owed work
 
+-- After n ticks the clock is n.
+pub sync-clock : (choose : List Live → List Live) (ts hs : List Row) (n : ℕ) → syncBy choose n ts hs .clock ≡ n
+unfolding syncBy
+sync-clock choose ts hs zero = refl
+sync-clock choose ts hs (suc n) = omega (arith, tick-clock choose (beatsAt n ts hs) (syncBy choose n ts hs), sync-clock choose ts hs n)
+
 module _ (choose : List Live → List Live) (ran : (xs : List Live) → Ran xs (choose xs)) (ts hs : List Row) where
-  -- Its tick is a tick of a schedule, with the arrivals of the clock n.
-  tick-gave : (s : State) (n : ℕ) → s .clock ≡ n
-      → Gave (arriveAll n (beats n ts) (s .tasks)) (arriveAll n (beats n hs) (s .handlers)) (tickBy choose (beatsAt n ts hs) s .tasks) (tickBy choose (beatsAt n ts hs) s .handlers)
-  unfolding tickBy
-  tick-gave s n e =
-      subst (λ (m : ℕ). Gave (arriveAll m (beats n ts) (s .tasks)) (arriveAll m (beats n hs) (s .handlers)) (tickBy choose (beatsAt n ts hs) s .tasks) (tickBy choose (beatsAt n ts hs) s .handlers)) e
+  abbrev after : ℕ → State
+  after n = syncBy choose n ts hs
+
+  -- Tick n of the run is a tick of a schedule.
+  sync-gave : (n : ℕ) → Gave (arriveAll n (beats n ts) (after n .tasks)) (arriveAll n (beats n hs) (after n .handlers)) (after (suc n) .tasks) (after (suc n) .handlers)
+  unfolding syncBy tickBy
+  sync-gave n =
+      subst
+      (λ (t : ℕ). Gave (arriveAll t (beats n ts) (after n .tasks)) (arriveAll t (beats n hs) (after n .handlers)) (after (suc n) .tasks) (after (suc n) .handlers))
+      (sync-clock choose ts hs n)
       (given-gave choose ran
-      (owedAll (arriveAll (s .clock) (beats n hs) (s .handlers)))
-      (s .clock)
-      (arriveAll (s .clock) (beats n ts) (s .tasks))
-      (arriveAll (s .clock) (beats n hs) (s .handlers))
+      (owedAll (arriveAll (after n .clock) (beats n hs) (after n .handlers)))
+      (after n .clock)
+      (arriveAll (after n .clock) (beats n ts) (after n .tasks))
+      (arriveAll (after n .clock) (beats n hs) (after n .handlers))
       refl)
-
-  pub sync-clock : (n : ℕ) → syncBy choose n ts hs .clock ≡ n
-  unfolding syncBy
-  sync-clock zero = refl
-  sync-clock (suc n) = omega (arith, tick-clock choose (beatsAt n ts hs) (syncBy choose n ts hs), sync-clock n)
-
-  sync-gave : (n : ℕ) → Gave (arriveAll n (beats n ts) (syncBy choose n ts hs .tasks)) (arriveAll n (beats n hs) (syncBy choose n ts hs .handlers)) (syncBy choose (suc n) ts hs .tasks) (syncBy choose (suc n) ts hs .handlers)
-  unfolding syncBy
-  sync-gave n = tick-gave (syncBy choose n ts hs) n (sync-clock n)
 
   -- On time so far: a schedule has come there on time.
   pub sync-timely : (n : ℕ) → ((m : ℕ) → m ≤ n → OnTime m (syncBy choose m ts hs .tasks)) → Timely ts hs n (syncBy choose n ts hs .tasks) (syncBy choose n ts hs .handlers)
@@ -53,15 +54,17 @@ module _ (choose : List Live → List Live) (ran : (xs : List Live) → Ran xs (
   -- And so each of its ticks has legal arrivals.
   pub sync-legal : Positive ts → Positive hs → (n : ℕ) → LegalTick (beatsAt n ts hs) (syncBy choose n ts hs)
   sync-legal pt ph n =
-      subst (λ (m : ℕ). LegalAll m (beats n ts) (syncBy choose n ts hs .tasks) × LegalAll m (beats n hs) (syncBy choose n ts hs .handlers)) (sym (sync-clock n))
+      subst (λ (m : ℕ). LegalAll m (beats n ts) (syncBy choose n ts hs .tasks) × LegalAll m (beats n hs) (syncBy choose n ts hs .handlers)) (sym (sync-clock choose ts hs n))
       (beating-legal ts hs (sync-beating pt ph n))
 
 -- ---- for the earliest deadline, where every length below L passes
 
 module _ (ts hs : List Row) (pt : Valid ts) (ph : Positive hs) (L : ℕ) (passes : (l : ℕ) → 0 < l → l < L → Passes ts hs l) where
+  -- The clock of the run by the earliest deadline.
   clock-is : (n : ℕ) → sync n ts hs .clock ≡ n
-  clock-is n = sync-clock (pick dueOf) (pick-ran dueOf) ts hs n
+  clock-is n = sync-clock (pick dueOf) ts hs n
 
+  -- The run keeps the forward invariant.
   sync-kept : (n : ℕ) → Kept L ts hs (sync n ts hs)
   unfolding syncBy
   sync-kept zero = fresh-kept L ts hs pt ph passes

@@ -12,9 +12,9 @@ use Rattle.demand.proofs.Demands.{called-nil, called-cons, called-zero, due-nil
 use Rattle.demand.proofs.Divide.{jobs}
 use Rattle.demand.proofs.Sums.{valid-positive}
 use Rattle.demand.proofs.Taken.{taken-mono, taken-le, taken-drop, taken-wait}
-use Rattle.scheduler.specs.Machine.{Live, dueOf, tableOf, idle, arriveAll, owedAll, share, beforeBy, before, OnTime}
+use Rattle.scheduler.specs.Machine.{Live, dueOf, tableOf, idle, arriveAll, share, beforeBy, before, OnTime}
 use Rattle.scheduler.specs.Schedules.{beats, Ran, ran-none, ran-here, ran-later, Gave, to-handlers, to-tasks, Timely, start, onward}
-use Rattle.scheduler.proofs.Beats.{OnBeat, OnBeats, beats-arrived, Beating, beating-fresh, beating-full, beating-gave}
+use Rattle.scheduler.proofs.Beats.{OnBeats, beats-arrived, Beating, beating-fresh, beating-full, beating-gave}
 use Rattle.scheduler.proofs.FullArrivals.{full, arrived, Settled, settled-arrive, settled-on-time, ran-settled, idle-settled, settled-before, tasks-full, handlers-full}
 use Rattle.scheduler.proofs.Room.{future, callable, ran-future, future-le-due, callable-le-called}
 use Rattle.scheduler.proofs.Sync.{gave-tasks}
@@ -33,13 +33,14 @@ module _ (t k : ℕ) (x : Live) (ahead : 0 < x .row .cost → suc t ≤ x .next)
           let same : suc k - (x .next - t) ≡ k - (x .next - suc t) = omega arith in
           rw same
 
--- So what tasks can yet have due stays, and what handlers can yet be called for.
+-- So what tasks can yet have due stays.
 pub future-same : (t k : ℕ) (xs : List Live) → OnBeats (suc t) xs → future t (suc k) xs ≡ future (suc t) k xs
 unfolding future
 future-same t k [] b = refl
 future-same t k (x ∷ xs) b =
     omega (arith, wait-same t k x (b .0 .from) (λ n. jobs n (deadlineOf (x .row)) (x .row .period)), future-same t k xs (b .1))
 
+-- And what handlers can yet be called for.
 pub callable-same : (t k : ℕ) (xs : List Live) → OnBeats (suc t) xs → callable t xs (suc k) ≡ callable (suc t) xs k
 unfolding callable
 callable-same t k [] b = refl
@@ -47,16 +48,19 @@ callable-same t k (x ∷ xs) b = omega (arith, wait-same t k x (b .0 .from) (λ 
 
 -- ---- whoever runs, at most one unit goes
 
+-- Of what handlers are owed or can be called for.
 pub ran-callable : {xs ys : List Live} (t k : ℕ) → Ran xs ys → callable t xs k ≤ suc (callable t ys k)
 unfolding callable
 ran-callable t k ran-none = omega arith
 ran-callable t k (ran-here n e) = omega arith
 ran-callable t k (ran-later r) = omega (arith, ran-callable t k r)
 
+-- Of one row's share.
 share-drop : (k o n : ℕ) → o ≡ suc n → share k o ≤ suc (share k n)
 share-drop zero o n e = omega arith
 share-drop (suc k) o n e = omega arith
 
+-- Of what tasks have due before n.
 pub ran-before : {xs ys : List Live} (n : ℕ) → Ran xs ys → before n xs ≤ suc (before n ys)
 unfolding beforeBy
 ran-before n ran-none = omega arith
@@ -68,17 +72,19 @@ ran-before n (ran-later r) = omega (arith, ran-before n r)
 abbrev pub Owes : List Row → List Row → ℕ → List Live → List Live → Type 0
 Owes ts hs t xs ys = (k : ℕ) → handled hs (t + k) + due ts (t + k) ≤ t + (before (suc (t + k)) xs + future t k xs + taken (callable t ys) k)
 
--- A fresh table can have due all of D, and be called for all of A.
+-- A fresh table can yet have all of D due.
 pub idle-future : (k : ℕ) (rs : List Row) → due rs k ≤ future 0 k (idle rs)
 unfolding idle future
 idle-future k [] = omega (arith, due-nil k)
 idle-future k (r ∷ rs) = rw (sub-zero k) (omega (arith, due-cons r rs k, idle-future k rs))
 
+-- And be called for all of A.
 pub idle-callable : (k : ℕ) (rs : List Row) → called rs k ≤ callable 0 (idle rs) k
 unfolding idle callable
 idle-callable k [] = omega (arith, called-nil k)
 idle-callable k (r ∷ rs) = rw (sub-zero k) (omega (arith, called-cons r rs k, idle-callable k rs))
 
+-- So at clock 0 all that is asked for is still to come.
 owes-fresh : (ts hs : List Row) → Owes ts hs 0 (idle ts) (idle hs)
 owes-fresh ts hs k =
     rw (zero-add k)
@@ -149,6 +155,7 @@ module _ (ts hs : List Row) (pt : Valid ts) (ph : Positive hs) where
         owes = owes-gave ts hs t full-tick bx by (owes-arrived ts hs t xs ys px py (h .settled) (h .owes));
       }
 
+  -- So at every state that a schedule comes to on time.
   pub timely-holds : {t : ℕ} {xs ys : List Live} → Timely ts hs t xs ys → Holds ts hs t xs ys
   timely-holds start =
       record { beating = beating-fresh ts hs (valid-positive ts pt) ph; settled = idle-settled 0 ts; owes = owes-fresh ts hs }

@@ -10,7 +10,7 @@ use native.Mathlib.Nat.{mul-zero, mul-suc, mul-le-mul-left}
 use native.Mathlib.Omega.{arith}
 use Prim.Native.Nat.{ℕ, zero, suc, _+_, _-_, _*_, _≤_, _<_}
 use Rattle.demand.specs.Demands.{ceil, called, taken, due}
-use Rattle.demand.specs.Rows.{Row, deadlineOf, Positive, Sound, Valid}
+use Rattle.demand.specs.Rows.{deadlineOf, Positive, Sound, Valid}
 use Rattle.demand.proofs.Demands.{called-cons, due-cons}
 use Rattle.demand.proofs.Divide.{jobs, le-or-lt, jobs-mono, jobs-none, jobs-arrive, ceil-mono, ceil-arrive}
 use Rattle.scheduler.specs.Machine.{Live, dueOf, tableOf, arrive, Legal, arriveAll, LegalAll, owedAll, share, beforeBy, before, served, serve, chosen, pick, edf}
@@ -54,7 +54,7 @@ share-out n m o h = go (n - m) refl
     go zero e = refl
     go (suc k) e = absurd (omega arith)
 
--- The later n, the more counts; so for one row, and for all.
+-- The later n, the more counts.
 share-mono : (n n' m o : ℕ) → n ≤ n' → share (n - m) o ≤ share (n' - m) o
 share-mono n n' m o h = go (le-or-lt n m)
   where
@@ -62,6 +62,7 @@ share-mono n n' m o h = go (le-or-lt n m)
     go (inl l) = omega (arith, share-out n m o l)
     go (inr l) = omega (arith, share-in n m o l, share-in n' m o (omega arith))
 
+-- So for all rows.
 pub before-mono : (xs : List Live) {n n' : ℕ} → n ≤ n' → before n xs ≤ before n' xs
 unfolding beforeBy
 before-mono [] h = omega arith

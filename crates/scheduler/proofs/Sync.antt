@@ -2,7 +2,7 @@
 use mathlib.Core.List.{List, [], _∷_}
 use mathlib.Core.Path.{_≡_, refl}
 use Prim.Native.Nat.{ℕ, zero, suc}
-use Rattle.scheduler.specs.Machine.{Live, State, tableOf, beforeBy, served, serve, chosen, pick, givenBy, owedAll}
+use Rattle.scheduler.specs.Machine.{Live, tableOf, beforeBy, served, serve, chosen, pick, givenBy, owedAll}
 use Rattle.scheduler.specs.Schedules.{Ran, ran-none, ran-here, ran-later, Gave, to-handlers, to-tasks}
 
 -- The first handler that is owed work, where one is.
@@ -33,17 +33,19 @@ ran-table ran-none = refl
 ran-table (ran-here n e) = refl
 ran-table (ran-later r) = rw (ran-table r)
 
--- In one tick of a schedule, tasks run and handlers run: one of the two not at all.
+-- The tasks of one tick of a schedule: one runs, or none.
 pub gave-tasks : {xs ys xs' ys' : List Live} → Gave xs ys xs' ys' → Ran xs xs'
 gave-tasks (to-handlers r) = ran-none
 gave-tasks (to-tasks none r) = r
 
+-- Its handlers: likewise.
 pub gave-handlers : {xs ys xs' ys' : List Live} → Gave xs ys xs' ys' → Ran ys ys'
 gave-handlers (to-handlers r) = r
 gave-handlers (to-tasks none r) = ran-none
 
 -- A scheduler that chooses at most one row that is owed work is one of the schedules.
 module _ (choose : List Live → List Live) (ran : (xs : List Live) → Ran xs (choose xs)) where
+  -- Where handlers are owed o in all: to them, or to the task that is chosen.
   pub given-gave : (o t : ℕ) (xs ys : List Live) → owedAll ys ≡ o → Gave xs ys (givenBy choose o t xs ys .tasks) (givenBy choose o t xs ys .handlers)
   given-gave zero t xs ys e = to-tasks e (ran xs)
   given-gave (suc o) t xs ys e = to-handlers (serve-ran ys)
