@@ -1,35 +1,14 @@
 -- Arrivals and lateness over the lists that a run holds, by place.
 --   Arrived t w r n o n' o'   an arrival of w at t makes n', o' of row r's next arrival n and work owed o
 use mathlib.Core.List.{List, [], _∷_}
-use mathlib.Core.Path.{_≡_, refl, ap, ap₂, _∙_}
+use mathlib.Core.Path.{_≡_, refl, ap₂}
 use native.Mathlib.Omega.{arith}
 use lib.ListN.{length, getD}
-use lib.Seq.{take-all}
-use Prim.Native.Nat.{ℕ, zero, suc, _+_, _-_, _≤_, _<_}
-use Rattle.demand.specs.Rows.{Row, rowsOf}
-use Rattle.demand.proofs.Slices.{rows-head}
+use Prim.Native.Nat.{ℕ, zero, suc, _+_, _≤_, _<_}
+use Rattle.demand.specs.Rows.{Row}
 use Rattle.scheduler.specs.Machine.{Live, arrive, Legal, arriveAll, LegalAll, OnTime}
 use Rattle.scheduler.specs.Places.{liveOf, Fits, rowAt, dueAt}
 use Rattle.scheduler.proofs.Flat.{fits-rest}
-
--- ---- the rows of a lent table by place
-
--- Two numbers at the head are a row.
-pub rows-cons : (c p : ℕ) (s : List ℕ) → rowsOf (c ∷ p ∷ s) ≡ record { cost = c; period = p } ∷ rowsOf s
-rows-cons c p s =
-    rows-head (c ∷ p ∷ s) (omega arith)
-    ∙ ap (λ (z : List ℕ). record { cost = c; period = p } ∷ rowsOf z) (take-all (length (c ∷ p ∷ s) - 2) s (omega arith))
-
--- The row at place i is the two numbers from place 2i on.
-pub rows-at : (s : List ℕ) (i : ℕ) → suc (i + i) < length s → rowAt (rowsOf s) i ≡ record { cost = getD s (i + i) 0; period = getD s (suc (i + i)) 0 }
-rows-at [] i h = absurd (omega arith)
-rows-at (c ∷ []) i h = absurd (omega arith)
-rows-at (c ∷ p ∷ s) zero h = rw (rows-cons c p s)
-rows-at (c ∷ p ∷ s) (suc i) h =
-    let e : suc i + suc i ≡ suc (suc (i + i)) = omega arith in
-    rw (e, rows-cons c p s) (rows-at s i (omega arith))
-
--- ---- arrivals
 
 pub record Arrived (t w : ℕ) (r : Row) (n o n' o' : ℕ) : Type 0 where
   pub stays : w ≡ 0 → n' ≡ n
