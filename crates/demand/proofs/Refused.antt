@@ -1,7 +1,9 @@
 -- Laws of the refusals: what each number says, and what a table without one is.
 use mathlib.Core.Bool.{Bool, true, false, _||_}
 use mathlib.Core.List.{List, [], _∷_}
+use mathlib.Core.Logic.{_⊎_, inl, inr}
 use mathlib.Core.Path.{_≡_, refl, ap, sym, _∙_}
+use native.Mathlib.Nat.{eq-zero-or-pos}
 use native.Mathlib.Omega.{arith}
 use borrow.Author.Tests.{ltb-false, eqb-false, le-ltb, lt-ltb}
 use Prim.Native.Nat.{ℕ, zero, suc, _≤_, _<_}
@@ -78,6 +80,10 @@ table-in-range t h rest e =
       figures .1,
     )
 
+pub refusal-in-range : (t h : List ℕ) → tableRefusal t h ≡ 0 → InRange (tasksOf t) (handlersOf h)
+unfolding tableRefusal
+refusal-in-range t h e = table-in-range t h 0 e .0
+
 -- The later tests speak exactly where the table has no refusal of its own.
 pub table-then-zero : (t h : List ℕ) (rest : ℕ) → tableRefusal t h ≡ 0 → tableThen t h rest ≡ rest
 unfolding tableThen tableRefusal
@@ -98,6 +104,14 @@ table-then-refused t h rest n =
     refuse-same 1 (odd t || odd h) _ _ (λ counts.
     refuse-same 2 (miscounted (tasksOf t) (handlersOf h)) _ _ (λ rows.
     refuse-same 3 (some rowOutside (tasksOf t) || some rowOutside (handlersOf h)) rest 0 (λ figures. absurd (n (rw (counts, rows, figures))))))
+
+-- Where the later tests come to 0, the table has no refusal of its own.
+pub table-refusal-zero : (t h : List ℕ) (rest : ℕ) → tableThen t h rest ≡ 0 → tableRefusal t h ≡ 0
+table-refusal-zero t h rest e = go (eq-zero-or-pos (tableRefusal t h))
+  where
+    go : (tableRefusal t h ≡ 0) ⊎ (0 < tableRefusal t h) → tableRefusal t h ≡ 0
+    go (inl z) = z
+    go (inr p) = sym (table-then-refused t h rest (λ z. omega arith)) ∙ e
 
 -- A question that is answered: the table is in range, and so is the interval.
 pub asked-in-range : (t h : List ℕ) (l : ℕ) → askedRefusal t h l ≡ 0 → InRange (tasksOf t) (handlersOf h) × (l ≤ ticksMost)

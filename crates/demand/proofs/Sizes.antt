@@ -7,11 +7,11 @@ use Prim.Native.Nat.{ℕ, suc, _+_, _-_, _*_, _/_, _≤_, _<_, min}
 use lib.ListN.{length}
 use Rattle.demand.specs.Demands.{calledBy, dueBy, called, due}
 use Rattle.demand.specs.Limits.{ticksMost}
-use Rattle.demand.specs.Refusals.{askedRefusal, FairRow}
+use Rattle.demand.specs.Refusals.{tableRefusal, askedRefusal, FairRow}
 use Rattle.demand.specs.Rows.{Row, tasksOf, handlersOf, Each, Positive, Valid}
 use Rattle.demand.specs.Walk.{Small}
 use Rattle.demand.proofs.Divide.{ceil-le}
-use Rattle.demand.proofs.Refused.{asked-in-range}
+use Rattle.demand.proofs.Refused.{refusal-in-range, asked-in-range}
 use Rattle.demand.proofs.Sums.{each-map, total-most}
 
 pub fair-positive : (rs : List Row) → Each FairRow rs → Positive rs
@@ -37,6 +37,14 @@ due-most rs l s = omega (arith, total-most 1000000000000000 (dueBy l) rs (each-m
 pub called-most : (rs : List Row) (l : ℕ) → Small rs l → called rs l ≤ 64000000000000000
 unfolding called
 called-most rs l s = omega (arith, total-most 1000000000000000 (calledBy l) rs (each-map (λ r f. called-by-most l r (s .ticks) f) rs (s .rows)), s .count)
+
+-- The rows of a table without a refusal of its own.
+module _ (t h : List ℕ) (e : tableRefusal t h ≡ 0) where
+  pub tasks-valid : Valid (tasksOf t)
+  tasks-valid = fair-valid (tasksOf t) (refusal-in-range t h e .tasks)
+
+  pub handlers-positive : Positive (handlersOf h)
+  handlers-positive = fair-positive (handlersOf h) (refusal-in-range t h e .handlers)
 
 -- The rows of a question that is answered.
 module _ (t h : List ℕ) (l : ℕ) (e : askedRefusal t h l ≡ 0) where

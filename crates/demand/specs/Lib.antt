@@ -6,3 +6,4 @@ pub mod Refusals
 pub mod Answers
 pub mod Walk
 pub mod Lighter
+pub mod Examples

@@ -9,7 +9,7 @@ use lib.ListN.{length, take, drop}
 use Rattle.demand.specs.Limits.{tasksMost, ticksMost}
 use Rattle.demand.specs.Refusals.{FairRow}
 use Rattle.demand.specs.Rows.{Row, Each}
-use Rattle.demand.specs.declared.rows.Row as code
+use Rattle.demand.specs.declared.readable.Row as code
 
 abbrev pub rest : List ℕ → List ℕ
 rest s = take (length s - 2) (drop 2 s)

@@ -1,7 +1,7 @@
 // The two demands of a table and the margin that they leave: what every sheet stands on.
 pub mod readable;
 pub mod refusal;
-pub mod rows;
+mod rows;
 mod signed;
 
 ghost use Rattle.demand.specs.Answers.{DemandSays, MarginSays};

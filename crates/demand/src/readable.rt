@@ -1,11 +1,36 @@
 // Calls for the crates above on a table that has been found in range, so that a search tests its rows once and not at every length.
+ghost use mathlib.Core.List.{_∷_};
 ghost use mathlib.Core.Path.{_≡_};
-ghost use Prim.Native.Nat.{_≤_, min};
+ghost use Prim.Native.Nat.{_<_, _≤_, min};
+ghost use lib.ListN.{length};
 ghost use Rattle.demand.specs.Demands.{handled, due};
 ghost use Rattle.demand.specs.Refusals.{askedRefusal};
-ghost use Rattle.demand.specs.Rows.{tasksOf, handlersOf};
-ghost use Rattle.demand.specs.Walk.{nextMultiple, Small};
+ghost use Rattle.demand.specs.Rows.{rowsOf, tasksOf, handlersOf};
+ghost use Rattle.demand.specs.Walk.{rowOf, rest, nextMultiple, Small};
 use crate::rows;
+
+// A row: its cost and its period.
+pub struct Row {
+    pub cost: u64,
+    pub period: u64,
+}
+
+fn wide(x: u32) -> u64
+    ensures { λ r. ⌜ (r ≡ x) × (r < 4294967296) ⌝ }
+{
+    x as u64
+}
+
+// The row at the head: the only place in the code that knows where its figures stand.
+pub fn head(s: &[u32]) -> Row
+    requires { ⌜ 2 ≤ length (now s) ⌝ }
+    ensures { λ r. ⌜ rowsOf (now (s .entry)) ≡ rowOf r ∷ rowsOf (rest (now (s .entry))) ⌝ }
+{
+    Row {
+        cost: wide(s[0]),
+        period: wide(s[1]),
+    }
+}
 
 // D at l.
 pub fn due(tasks: &[u32], handlers: &[u32], l: u64) -> u64
@@ -23,7 +48,7 @@ pub fn next_length(tasks: &[u32], handlers: &[u32], l: u64, top: u64) -> u64
     rows::next_multiple(tasks, l, top)
 }
 
-// f at m, from f at l: on from one handler arrival to the next.
+// f at m, from f at l: through the work called for at once, then on to the next arrival.
 pub fn handled(tasks: &[u32], handlers: &[u32], l: u64, f: u64, m: u64) -> u64
     requires { ⌜ askedRefusal (now tasks) (now handlers) m ≡ 0 ⌝ }
     requires { ⌜ (l ≤ m) × (f ≡ handled (handlersOf (now handlers)) l) ⌝ }
@@ -41,9 +66,13 @@ fn handled_on(handlers: &[u32], l: u64, f: u64, m: u64) -> u64
     let mut taken = f;
     while at < m {
         let work = rows::called(handlers, at + 1);
-        let next = rows::next_multiple(handlers, at, m);
-        taken = lesser(taken + (next - at), work);
-        at = next;
+        if taken < work {
+            let busy = lesser(work - taken, m - at);
+            taken += busy;
+            at += busy;
+        } else {
+            at = rows::next_multiple(handlers, at, m);
+        }
     }
     taken
 }

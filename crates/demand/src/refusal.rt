@@ -2,7 +2,7 @@
 ghost use mathlib.Core.Path.{_≡_};
 ghost use Rattle.demand.specs.Refusals.{odd, miscounted, outside, rowOutside, tableRefusal, askedRefusal};
 ghost use Rattle.demand.specs.Rows.{rowsOf, tasksOf, handlersOf, some};
-use crate::rows;
+use crate::readable;
 
 pub const FIGURE_MOST: u64 = 1_000_000;
 
@@ -39,7 +39,7 @@ fn some_outside(s: &[u32]) -> bool
     if s.len() < 2 {
         return false;
     }
-    let row = rows::head(s);
+    let row = readable::head(s);
     let rest = some_outside(&s[2..]);
     outside(row.cost) | outside(row.period) | rest
 }

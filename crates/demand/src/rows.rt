@@ -1,34 +1,9 @@
-// The row at the head of a lent list, and totals over the rows of one lent list, each handing the list from its third number on to itself.
-ghost use mathlib.Core.List.{_∷_};
+// Totals over the rows of one lent list, each handing the list from its third number on to itself.
 ghost use mathlib.Core.Path.{_≡_};
-ghost use Prim.Native.Nat.{_<_, _≤_};
-ghost use lib.ListN.{length};
 ghost use Rattle.demand.specs.Demands.{called, due};
 ghost use Rattle.demand.specs.Rows.{rowsOf, tasksOf, handlersOf};
-ghost use Rattle.demand.specs.Walk.{rowOf, rest, Small, nextMultiple};
-
-// A row: its cost and its period.
-pub struct Row {
-    pub cost: u64,
-    pub period: u64,
-}
-
-fn wide(x: u32) -> u64
-    ensures { λ r. ⌜ (r ≡ x) × (r < 4294967296) ⌝ }
-{
-    x as u64
-}
-
-// The row at the head: the only place in the code that knows where its figures stand.
-pub fn head(s: &[u32]) -> Row
-    requires { ⌜ 2 ≤ length (now s) ⌝ }
-    ensures { λ r. ⌜ rowsOf (now (s .entry)) ≡ rowOf r ∷ rowsOf (rest (now (s .entry))) ⌝ }
-{
-    Row {
-        cost: wide(s[0]),
-        period: wide(s[1]),
-    }
-}
+ghost use Rattle.demand.specs.Walk.{Small, nextMultiple};
+use crate::readable::head;
 
 // D: the work of tasks that is due within l ticks.
 pub fn due(tasks: &[u32], l: u64) -> u64

@@ -9,3 +9,6 @@ pub mod Lengths
 pub mod Once
 pub mod UnderLess
 pub mod Cases
+pub mod Heads
+pub mod Searching
+pub mod Sayings

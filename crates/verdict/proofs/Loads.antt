@@ -1,7 +1,7 @@
 -- Laws of W, E and the load (specs/Loads): row by row, how great they get, and the load without a long product.
 use mathlib.Core.List.{List, [], _∷_}
 use mathlib.Core.Path.{_≡_, refl, ap, _∙_}
-use native.Mathlib.Nat.{mul-le-mul, mul-add-div, div-le-self, div-add-mod'}
+use native.Mathlib.Nat.{mul-le-mul, mul-le-mul-right, mul-add-div, div-le-self, div-add-mod'}
 use native.Mathlib.Omega.{arith}
 use lib.ListN.{length}
 use Prim.Native.Nat.{ℕ, _+_, _*_, _/_, _%_, _≤_, _<_}
@@ -30,15 +30,15 @@ costs-cons r rs = refl
 
 -- ---- how great they get
 
--- A row whose figures are in range brings at most 1,000,000 times 1,000,000,000.
-pub work-most : (m : ℕ) (rs : List Row) → Each FairRow rs → m ≤ 1000000000 → work m rs ≤ length rs * 1000000000000000
+-- A row whose figures are in range brings at most 1,000,000 for each tick.
+pub work-by-most : (m : ℕ) (r : Row) → FairRow r → workBy m r ≤ 1000000 * m
+work-by-most m r f = mul-le-mul (f .cost .most) (div-le-self m (r .period))
+
+-- So 64 rows bring at most 64,000,000 for each.
+pub work-most : (m n : ℕ) (rs : List Row) → Each FairRow rs → length rs ≤ n → work m rs ≤ n * (1000000 * m)
 unfolding work
-work-most m rs fair short = total-most 1000000000000000 (workBy m) rs (each-map row rs fair)
-  where
-    row : (r : Row) → FairRow r → workBy m r ≤ 1000000000000000
-    row r f =
-        let jobs : m / r .period ≤ 1000000000 = omega (arith, div-le-self m (r .period)) in
-        mul-le-mul (f .cost .most) jobs
+work-most m n rs fair few =
+    omega (arith, total-most (1000000 * m) (workBy m) rs (each-map (work-by-most m) rs fair), mul-le-mul-right (1000000 * m) few)
 
 pub costs-most : (rs : List Row) → Each FairRow rs → costs rs ≤ length rs * 1000000
 unfolding costs

@@ -7,8 +7,8 @@ use Rattle.demand.specs.Demands.{handled, due}
 use Rattle.demand.specs.Rows.{tasksOf, handlersOf}
 use Rattle.verdict.specs.Promise.{Word, Figures, figures, SaysFits, SaysMisses, SaysRefused, SaysBy, Says, VerdictSays}
 use Rattle.verdict.specs.Promise.Word.{fits, misses, refused}
-use Rattle.verdict.specs.declared.Verdict.{Verdict}
-use Rattle.verdict.specs.declared.Verdict.the-variants as answer
+use Rattle.verdict.specs.declared.Answer.{Answer}
+use Rattle.verdict.specs.declared.Answer.the-variants as answer
 use Rattle.verdict.proofs.Lengths.{least-unique, fits-never-fails}
 
 -- ---- one set of figures
@@ -63,7 +63,7 @@ says-unique t h f g = go (f .word) (g .word) refl refl
 -- ---- one answer
 
 -- Answers with the same figures are the same.
-pub figures-once : (r s : Verdict) → figures r ≡ figures s → r ≡ s
+pub figures-once : (r s : Answer) → figures r ≡ figures s → r ≡ s
 unfolding figures
 figures-once (answer.Fits l) (answer.Fits m) e = ap answer.Fits (ap (λ (f : Figures). f .load) e)
 figures-once (answer.Fits l) (answer.Misses n a b m) e = cc (ap (λ (f : Figures). f .word) e)
@@ -76,6 +76,6 @@ figures-once (answer.Refused k) (answer.Fits m) e = cc (ap (λ (f : Figures). f 
 figures-once (answer.Refused k) (answer.Misses n a b m) e = cc (ap (λ (f : Figures). f .word) e)
 figures-once (answer.Refused k) (answer.Refused m) e = ap answer.Refused (ap (λ (f : Figures). f .code) e)
 
-pub verdict-unique : (t h : List ℕ) (r s : Verdict) → VerdictSays t h r → VerdictSays t h s → r ≡ s
+pub verdict-unique : (t h : List ℕ) (r s : Answer) → VerdictSays t h r → VerdictSays t h s → r ≡ s
 unfolding VerdictSays
 verdict-unique t h r s a b = figures-once r s (says-unique t h (figures r) (figures s) a b)

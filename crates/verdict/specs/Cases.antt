@@ -8,7 +8,7 @@ use mathlib.Core.Path.{_≡_}
 use Prim.Native.Nat.{ℕ}
 use Rattle.verdict.specs.Promise.{Figures, Word, figures, Says, VerdictSays}
 use Rattle.verdict.specs.Promise.Word.{fits, misses, refused}
-use Rattle.verdict.specs.declared.Verdict.{Verdict}
+use Rattle.verdict.specs.declared.Answer.{Answer}
 
 pub record Case : Type 0 where
   pub tasks : List ℕ
@@ -45,7 +45,7 @@ cases =
 
 pub record CaseHolds (c : Case) : Type 0 where
   pub holds : Says (c .tasks) (c .handlers) (c .sheet)
-  pub only : (r : Verdict) → VerdictSays (c .tasks) (c .handlers) r → figures r ≡ c .sheet
+  pub only : (r : Answer) → VerdictSays (c .tasks) (c .handlers) r → figures r ≡ c .sheet
 
 abbrev pub EveryCase : List Case → Type 0
 EveryCase [] = Unit

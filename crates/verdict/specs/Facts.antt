@@ -2,16 +2,22 @@
 --   OverfullFails ts hs   if W is above H, some L up to H fails
 --   PeriodEnds ts hs      if W is at most H and no L up to H fails, none fails at all
 --   ShortOnly ts hs       if W is below H, every failing L has L times (H - W) below E times H
---   searchEnd ts hs       == the smallest end that the facts allow: no length above it need be looked at
+--   FailsBy ts hs end, PassesTo ts hs end   some length from 1 to end fails, each passes
+--   endBy H W E           == the smallest end that the facts allow where H, W and E are these
+--   FoundSays ts hs end r the search's answer: the shortest length that fails, with f and D there, or that none up to end does
+--   searchEnd ts hs       == that end of a table: no length above it need be looked at
 use mathlib.Core.List.{List}
-use Prim.Native.Nat.{ℕ, zero, suc, _-_, _*_, _/_, _≤_, _<_, min}
+use mathlib.Core.Path.{_≡_}
+use Prim.Native.Nat.{ℕ, _-_, _*_, _/_, _≤_, _<_, min}
 use lib.Dec.{ltb, eqb}
-use Rattle.demand.specs.Demands.{Passes, Fails}
+use Rattle.demand.specs.Demands.{handled, due, Passes, Fails}
 use Rattle.demand.specs.Rows.{Row}
 use Rattle.demand.specs.Tests.{pick}
 use Rattle.verdict.specs.Loads.{whole, costs}
 use Rattle.verdict.specs.Multiples.{period}
-use Rattle.verdict.specs.Promise.{AlwaysPasses}
+use Rattle.verdict.specs.Promise.{AlwaysPasses, LeastFailing}
+use Rattle.verdict.specs.declared.search.Found.{Found}
+use Rattle.verdict.specs.declared.search.Found.the-variants.{At, Nothing}
 
 pub record FailsBy (ts hs : List Row) (end : ℕ) : Type 0 where
   pub interval : ℕ
@@ -41,3 +47,13 @@ endBy H W E =
 
 unfoldable pub searchEnd : List Row → List Row → ℕ
 searchEnd ts hs = endBy (period ts hs) (whole ts hs) (costs hs)
+
+pub record FoundAt (ts hs : List Row) (end interval f d : ℕ) : Type 0 where
+  pub shortest : LeastFailing ts hs interval
+  pub within : interval ≤ end
+  pub handler : f ≡ handled hs interval
+  pub task : d ≡ due ts interval
+
+unfoldable pub FoundSays : List Row → List Row → ℕ → Found → Type 0
+FoundSays ts hs end (At interval handler task) = FoundAt ts hs end interval handler task
+FoundSays ts hs end Nothing = PassesTo ts hs end

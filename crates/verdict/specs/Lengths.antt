@@ -1,5 +1,4 @@
 -- Test lengths (01, "The verdict"): only multiples of task periods can be the least failing length.
---   MultipleOf r l      l is a multiple of the period of row r
 --   TestLength ts l     l is a multiple of the period of some task
 use mathlib.Core.List.{List, [], _∷_}
 use mathlib.Core.Logic.{_⊎_}

@@ -7,11 +7,11 @@ use Rattle.demand.specs.Lighter.{Lighter}
 use Rattle.demand.specs.Rows.{tasksOf, handlersOf}
 use Rattle.verdict.specs.Promise.{Figures, Word, figures, verdictRefusal, VerdictSays}
 use Rattle.verdict.specs.Promise.Word.{fits}
-use Rattle.verdict.specs.declared.Verdict.{Verdict}
+use Rattle.verdict.specs.declared.Answer.{Answer}
 
 unfoldable pub YesUnderLess : Type 0
 YesUnderLess =
-    (t h t' h' : List ℕ) (r r' : Verdict)
+    (t h t' h' : List ℕ) (r r' : Answer)
     → VerdictSays t h r → figures r .word ≡ fits
     → Lighter (tasksOf t') (tasksOf t) → Lighter (handlersOf h') (handlersOf h) → verdictRefusal t' h' ≡ 0
     → VerdictSays t' h' r' → figures r' .word ≡ fits

@@ -3,11 +3,15 @@
 --   lcm a b           == the least common multiple, by it
 --   lcmFrom a rs      == the least common multiple of a and the periods of rs, row by row
 --   period ts hs      == H of a table
+--   capped m          == m, or 0 where it is above 1,000,000,000
 --   Divided n rs      n is a multiple of every period of rs
 --   LeastMultiple ts hs m   m is the least common multiple of all periods: a statement about period
 use mathlib.Core.List.{List, [], _∷_}
 use Prim.Native.Nat.{ℕ, zero, suc, _*_, _/_, _%_, _≤_, _<_, _∣_}
+use lib.Dec.{ltb}
+use Rattle.demand.specs.Limits.{ticksMost}
 use Rattle.demand.specs.Rows.{Row, Each}
+use Rattle.demand.specs.Tests.{pick}
 
 -- The second number falls each time, so that many turns and one more are enough.
 unfoldable pub euclid : ℕ → ℕ → ℕ → ℕ
@@ -27,6 +31,9 @@ lcmFrom a (r ∷ rs) = lcmFrom (lcm a (r .period)) rs
 
 unfoldable pub period : List Row → List Row → ℕ
 period ts hs = lcmFrom (lcmFrom 1 ts) hs
+
+abbrev pub capped : ℕ → ℕ
+capped m = pick (ltb ticksMost m) 0 m
 
 abbrev pub Divided : ℕ → List Row → Type 0
 Divided n rs = Each (λ r. r .period ∣ n) rs

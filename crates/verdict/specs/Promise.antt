@@ -15,8 +15,8 @@ use Rattle.demand.specs.Rows.{Row, tasksOf, handlersOf}
 use Rattle.demand.specs.Tests.{refuse}
 use Rattle.verdict.specs.Loads.{load}
 use Rattle.verdict.specs.Multiples.{period}
-use Rattle.verdict.specs.declared.Verdict.{Verdict}
-use Rattle.verdict.specs.declared.Verdict.the-variants as answer
+use Rattle.verdict.specs.declared.Answer.{Answer}
+use Rattle.verdict.specs.declared.Answer.the-variants as answer
 
 -- 4: H is above 1,000,000,000
 unfoldable pub verdictRefusal : List ℕ → List ℕ → ℕ
@@ -43,7 +43,7 @@ pub record Figures : Type 0 where
   pub task : ℕ
   pub load : ℕ
 
-unfoldable pub figures : Verdict → Figures
+unfoldable pub figures : Answer → Figures
 figures (answer.Fits load) = record { word = fits; code = 0; interval = 0; handler = 0; task = 0; load = load }
 figures (answer.Misses interval handler task load) = record { word = misses; code = 0; interval = interval; handler = handler; task = task; load = load }
 figures (answer.Refused number) = record { word = refused; code = number; interval = 0; handler = 0; task = 0; load = 0 }
@@ -84,5 +84,5 @@ SaysBy refused t h g = SaysRefused t h g
 unfoldable pub Says : List ℕ → List ℕ → Figures → Type 0
 Says t h g = SaysBy (g .word) t h g
 
-unfoldable pub VerdictSays : List ℕ → List ℕ → Verdict → Type 0
+unfoldable pub VerdictSays : List ℕ → List ℕ → Answer → Type 0
 VerdictSays t h r = Says t h (figures r)

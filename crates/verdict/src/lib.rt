@@ -1,5 +1,16 @@
-// The answer to a table: fits, misses at the shortest interval that fails, or the number of a refusal.
-pub enum Verdict {
+// The verdict on a table: does every interval have room, and if not, which is the shortest that fails.
+mod load;
+mod multiples;
+mod search;
+
+ghost use mathlib.Core.Path.{_≡_};
+ghost use Rattle.verdict.specs.Multiples.{period};
+ghost use Rattle.verdict.specs.Promise.{verdictRefusal, VerdictSays};
+ghost use Rattle.demand.specs.Rows.{tasksOf, handlersOf};
+use search::Found;
+
+// Fits, misses at the shortest interval that fails with both demands there, or the number of the refusal.
+pub enum Answer {
     Fits {
         load: u64,
     },
@@ -12,4 +23,43 @@ pub enum Verdict {
     Refused {
         number: u32,
     },
+}
+
+// The verdict: Fits exactly when every interval length from 1 up passes, with no upper end.
+pub fn verdict(tasks: &[u32], handlers: &[u32]) -> Answer
+    ensures { λ r. ⌜ VerdictSays (now (tasks .entry)) (now (handlers .entry)) r ⌝ }
+{
+    let number = demand::refusal::of_table(tasks, handlers);
+    if 0 < number {
+        return Answer::Refused { number };
+    }
+    let h = multiples::of_table(tasks, handlers);
+    if h == 0 {
+        return Answer::Refused { number: 4 };
+    }
+    judged(tasks, handlers, h)
+}
+
+// The verdict on a readable table, whose H is h.
+fn judged(tasks: &[u32], handlers: &[u32], h: u64) -> Answer
+    requires { ⌜ (verdictRefusal (now tasks) (now handlers) ≡ 0) × (h ≡ period (tasksOf (now tasks)) (handlersOf (now handlers))) ⌝ }
+    ensures { λ r. ⌜ VerdictSays (now (tasks .entry)) (now (handlers .entry)) r ⌝ }
+{
+    let w = load::work(tasks, h) + load::work(handlers, h);
+    let load = load::of_work(w, h);
+    let end = search::end_of(h, w, load::costs(handlers));
+    let found = search::first_failing(tasks, handlers, end);
+    match found {
+        Found::At {
+            interval,
+            handler,
+            task,
+        } => Answer::Misses {
+            interval,
+            handler,
+            task,
+            load,
+        },
+        Found::Nothing => Answer::Fits { load },
+    }
 }

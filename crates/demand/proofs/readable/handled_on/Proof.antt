@@ -5,7 +5,7 @@ use Rattle.demand.specs.Demands.{handled}
 use Rattle.demand.specs.Rows.{handlersOf}
 use Rattle.demand.proofs.Demands.{handled-le}
 use Rattle.demand.proofs.Sizes.{fair-positive, small-less}
-use Rattle.demand.proofs.Walks.{next-above, next-within, walk-on}
+use Rattle.demand.proofs.Walks.{next-above, next-within, walk-busy, walk-idle}
 use Rattle.demand.proofs.readable.handled_on.Statement.{statement}
 use Rattle.demand.proofs.readable.handled_on.Tie as tie
 use Rattle.demand.proofs.readable.handled_on.Reads as reads
@@ -29,41 +29,50 @@ add-called c = omega (arith, c .before .before .before .pre .0 .ticks)
 called-requires : tie.Need-called-requires Inv-loop μ-loop
 called-requires c κs = small-less _ _ _ (omega arith) (c .before .before .before .pre .0)
 
-next-multiple-requires : tie.Need-next-multiple-requires Inv-loop μ-loop
-next-multiple-requires c κs = small-less _ _ _ (omega arith) (c .before .before .before .before .pre .0)
-
 sub-lesser : tie.Need-sub-lesser Inv-loop μ-loop
-sub-lesser c =
-    let start = c .before .before .before .before .before in
-    let hs = handlersOf (start .args .handlers .now) in
-    let above = next-above hs _ _ (fair-positive hs (start .pre .0 .rows)) (c .before .before .loop-test .taken) in
-    omega (arith, c .next-multiple .ensures, above)
+sub-lesser c = omega arith
 
-add-lesser : tie.Need-add-lesser Inv-loop μ-loop
-add-lesser c =
-    let start = c .before .before .before .before .before in
-    let turn = c .before .before .before .loop in
-    let hs = handlersOf (start .args .handlers .now) in
-    omega (arith, start .pre .0 .ticks, turn .inv .1, handled-le hs (turn .at), c .next-multiple .ensures, next-within hs (turn .at) (start .args .m))
+sub-lesser-2 : tie.Need-sub-lesser-2 Inv-loop μ-loop
+sub-lesser-2 c = omega arith
 
 lesser-requires : tie.Need-lesser-requires Inv-loop μ-loop
 lesser-requires c κs = tt
 
+add-taken : tie.Need-add-taken Inv-loop μ-loop
+add-taken c =
+    let start = c .before .before .before .before .before .before in
+    let turn = c .before .before .before .before .loop in
+    omega (arith, start .pre .0 .ticks, turn .inv .1, handled-le (handlersOf (start .args .handlers .now)) (turn .at), c .lesser .ensures)
+
+add-at : tie.Need-add-at Inv-loop μ-loop
+add-at c = omega (arith, c .before .before .before .before .before .before .pre .0 .ticks, c .lesser .ensures)
+
 loop-less : tie.Need-loop-less Inv-loop μ-loop
-loop-less c =
+loop-less c = omega (arith, c .lesser .ensures)
+
+loop-again : tie.Need-loop-again Inv-loop μ-loop
+loop-again c = (
+  omega (arith, c .lesser .ensures),
+  walk-busy _ _ _ _ _ _ (c .before .before .before .before .loop .inv .1) (c .before .before .called .ensures) (c .before .if1 .taken) (c .lesser .ensures),
+)
+
+next-multiple-requires : tie.Need-next-multiple-requires Inv-loop μ-loop
+next-multiple-requires c κs = small-less _ _ _ (omega arith) (c .before .before .before .before .before .pre .0)
+
+loop-less-2 : tie.Need-loop-less-2 Inv-loop μ-loop
+loop-less-2 c =
     let start = c .before .before .before .before .before .before in
     let hs = handlersOf (start .args .handlers .now) in
     let above = next-above hs _ _ (fair-positive hs (start .pre .0 .rows)) (c .before .before .before .loop-test .taken) in
-    omega (arith, c .before .next-multiple .ensures, above)
+    omega (arith, c .next-multiple .ensures, above)
 
-loop-again : tie.Need-loop-again Inv-loop μ-loop
-loop-again c =
+loop-again-2 : tie.Need-loop-again-2 Inv-loop μ-loop
+loop-again-2 c =
     let start = c .before .before .before .before .before .before in
     let turn = c .before .before .before .before .loop in
     let hs = handlersOf (start .args .handlers .now) in (
-      omega (arith, c .before .next-multiple .ensures, next-within hs (turn .at) (start .args .m)),
-      c .lesser .ensures
-          ∙ walk-on hs _ _ _ _ _ (fair-positive hs (start .pre .0 .rows)) (c .before .before .before .loop-test .taken) (turn .inv .1) (c .before .next-multiple .ensures) (c .before .before .called .ensures),
+      omega (arith, c .next-multiple .ensures, next-within hs (turn .at) (start .args .m)),
+      walk-idle hs _ _ _ _ _ (fair-positive hs (start .pre .0 .rows)) (c .before .before .before .loop-test .taken) (turn .inv .1) (c .before .before .called .ensures) (c .before .if1 .left) (c .next-multiple .ensures),
     )
 
 returns : tie.Need-returns Inv-loop μ-loop
@@ -80,10 +89,14 @@ handled-on-spec =
     loop-holds
     add-called
     called-requires
-    next-multiple-requires
     sub-lesser
-    add-lesser
+    sub-lesser-2
     lesser-requires
+    add-taken
+    add-at
     loop-less
     loop-again
+    next-multiple-requires
+    loop-less-2
+    loop-again-2
     returns)

@@ -10,7 +10,7 @@ use Rattle.demand.proofs.refusal.some_outside.Reads as some-outside
 use Rattle.demand.proofs.refusal.some_outside.Kinds as some-outside-kinds
 use Rattle.demand.proofs.refusal.+some_outside.Lts-some_outside as some-outside-lts
 use Rattle.demand.proofs.refusal.outside.Reads as outside-reads
-use Rattle.demand.proofs.rows.head.Reads as head-reads
+use Rattle.demand.proofs.readable.head.Reads as head-reads
 use Rattle.demand.proofs.refusal.+some_outside.{statement}
 use Rattle.demand.proofs.refusal.+some_outside.Tie.{close}
 

@@ -9,7 +9,7 @@ use borrow.Fn.PlainCycle.{Measures, is, falls, and}
 use Rattle.demand.proofs.rows.called.Reads as called
 use Rattle.demand.proofs.rows.called.Kinds as called-kinds
 use Rattle.demand.proofs.rows.+called.Lts-called as called-lts
-use Rattle.demand.proofs.rows.head.Reads as head-reads
+use Rattle.demand.proofs.readable.head.Reads as head-reads
 use Rattle.demand.proofs.rows.+called.{statement}
 use Rattle.demand.proofs.rows.+called.Tie.{close}
 

@@ -9,7 +9,7 @@ use borrow.Fn.PlainCycle.{Measures, is, falls, and}
 use Rattle.demand.proofs.rows.due.Reads as due
 use Rattle.demand.proofs.rows.due.Kinds as due-kinds
 use Rattle.demand.proofs.rows.+due.Lts-due as due-lts
-use Rattle.demand.proofs.rows.head.Reads as head-reads
+use Rattle.demand.proofs.readable.head.Reads as head-reads
 use Rattle.demand.proofs.rows.+due.{statement}
 use Rattle.demand.proofs.rows.+due.Tie.{close}
 

@@ -9,7 +9,7 @@ use borrow.Fn.PlainCycle.{Measures, is, falls, and}
 use Rattle.demand.proofs.rows.next_multiple.Reads as next-multiple
 use Rattle.demand.proofs.rows.next_multiple.Kinds as next-multiple-kinds
 use Rattle.demand.proofs.rows.+next_multiple.Lts-next_multiple as next-multiple-lts
-use Rattle.demand.proofs.rows.head.Reads as head-reads
+use Rattle.demand.proofs.readable.head.Reads as head-reads
 use Rattle.demand.proofs.rows.+next_multiple.{statement}
 use Rattle.demand.proofs.rows.+next_multiple.Tie.{close}
 

@@ -1,10 +1,10 @@
 use Rattle.demand.proofs.Slices.{head-read}
 use borrow.Author.Needs.{needs}
-use Rattle.demand.proofs.rows.head.Statement.{statement}
-use Rattle.demand.proofs.rows.head.Tie as tie
-use Rattle.demand.proofs.rows.head.Reads as reads
-use Rattle.demand.proofs.rows.head.Lts as lts
-use Rattle.demand.proofs.rows.wide.Reads as wide-reads
+use Rattle.demand.proofs.readable.head.Statement.{statement}
+use Rattle.demand.proofs.readable.head.Tie as tie
+use Rattle.demand.proofs.readable.head.Reads as reads
+use Rattle.demand.proofs.readable.head.Lts as lts
+use Rattle.demand.proofs.readable.wide.Reads as wide-reads
 
 shared-slice-read-wide : tie.Need-shared-slice-read-wide
 shared-slice-read-wide c = search needs

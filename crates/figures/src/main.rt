@@ -1,0 +1,96 @@
+// Asks both demands and the margin of a list of tables, refused ones among them, and prints the figures.
+use demand::DemandAnswer;
+use demand::MarginAnswer;
+use libc::STDOUT_FILENO;
+
+fn print_demand(answer: DemandAnswer) {
+    match answer {
+        DemandAnswer::Ticks { ticks } => {
+            io::print_decimal(STDOUT_FILENO, ticks);
+        }
+        DemandAnswer::Refused { number } => {
+            io::write_all(STDOUT_FILENO, b"refused ");
+            io::print_decimal(STDOUT_FILENO, number as u64);
+        }
+    }
+}
+
+// How far z is from 0.
+fn distance(z: i64) -> u64 {
+    if z < 0 { (-1 - z) as u64 + 1 } else { z as u64 }
+}
+
+fn print_margin(answer: MarginAnswer) {
+    match answer {
+        MarginAnswer::Ticks { ticks } => {
+            if ticks < 0 {
+                io::write_all(STDOUT_FILENO, b"-");
+            }
+            io::print_decimal(STDOUT_FILENO, distance(ticks));
+        }
+        MarginAnswer::Refused { number } => {
+            io::write_all(STDOUT_FILENO, b"refused ");
+            io::print_decimal(STDOUT_FILENO, number as u64);
+        }
+    }
+}
+
+// One line: what is asked, then f, D and the margin.
+fn ask(what: &[u8], tasks: &[u32], handlers: &[u32], l: u64) {
+    io::write_all(STDOUT_FILENO, what);
+    io::write_all(STDOUT_FILENO, b" at ");
+    io::print_decimal(STDOUT_FILENO, l);
+    io::write_all(STDOUT_FILENO, b": f ");
+    print_demand(demand::handler_demand(tasks, handlers, l));
+    io::write_all(STDOUT_FILENO, b", D ");
+    print_demand(demand::task_demand(tasks, handlers, l));
+    io::write_all(STDOUT_FILENO, b", margin ");
+    print_margin(demand::margin(tasks, handlers, l));
+    io::write_all(STDOUT_FILENO, b"\n");
+}
+
+// The cases of the paper in which f, D or the margin is named.
+fn cases() {
+    ask(b"case 2", &[2, 4], &[1, 2], 4);
+    ask(b"case 3", &[1, 4], &[2, 3], 4);
+    ask(b"case 4", &[2, 4], &[2, 3], 4);
+    ask(b"case 5", &[1, 2], &[2, 10], 2);
+    ask(b"case 7", &[2, 4], &[1, 4, 1, 4], 1);
+    ask(b"case 7", &[2, 4], &[1, 4, 1, 4], 2);
+    ask(b"case 8", &[1, 1], &[1, 1000000], 1);
+    ask(b"case 9", &[2, 5, 4, 8], &[1, 4], 10);
+    ask(b"case 10", &[3, 2], &[], 2);
+}
+
+// The ends of the ranges.
+fn ends() {
+    ask(b"at rest", &[2, 5], &[1, 4], 0);
+    ask(b"longest", &[1, 1], &[1000000, 1], 1000000000);
+    ask(b"dearest", &[1000000, 1], &[], 1000000000);
+    ask(b"rarest", &[1000000, 1000000], &[1, 1000000], 999999999);
+}
+
+// Each refusal, and the lowest of several.
+fn refusals() {
+    ask(b"odd tasks", &[2, 5, 4], &[1, 4], 10);
+    ask(b"odd handlers", &[2, 5], &[1], 10);
+    ask(b"no task", &[], &[1, 4], 10);
+    ask(b"64 tasks", &[1; 128], &[], 10);
+    ask(b"65 tasks", &[1; 130], &[], 10);
+    ask(b"16 handlers", &[1, 1], &[1; 32], 10);
+    ask(b"17 handlers", &[1, 1], &[1; 34], 10);
+    ask(b"cost 0", &[0, 5], &[], 10);
+    ask(b"period 0", &[1, 5], &[1, 0], 10);
+    ask(b"cost 1000001", &[1000001, 5], &[], 10);
+    ask(b"period 1000001", &[1, 5], &[1, 1000001], 10);
+    ask(b"too long", &[2, 5], &[1, 4], 1000000001);
+    ask(b"1 before 2", &[1; 131], &[], 10);
+    ask(b"2 before 3", &[], &[0, 0], 10);
+    ask(b"3 before 5", &[0, 5], &[], 1000000001);
+}
+
+fn main() {
+    cases();
+    ends();
+    refusals();
+}

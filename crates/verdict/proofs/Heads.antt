@@ -1,0 +1,96 @@
+-- The functions that go row by row, in the form in which the code meets them: no row left, and one row and the rest.
+use mathlib.Core.Bool.{Bool, true, false}
+use mathlib.Core.List.{List, [], _∷_}
+use mathlib.Core.Path.{_≡_, refl, ap, sym, _∙_}
+use native.Mathlib.Nat.{mul-le-mul, div-le-self, le-trans}
+use native.Mathlib.Omega.{arith}
+use borrow.Author.Tests.{lt-ltb, le-ltb, ltb-true, ltb-false}
+use lib.Dec.{ltb}
+use lib.ListN.{length}
+use Prim.Native.Nat.{ℕ, _+_, _*_, _/_, _≤_, _<_}
+use Rattle.demand.specs.Limits.{figureMost, ticksMost}
+use Rattle.demand.specs.Refusals.{tableRefusal, FairRow}
+use Rattle.demand.specs.Rows.{Row, rowsOf, tasksOf, handlersOf, Each}
+use Rattle.demand.specs.Tests.{pick}
+use Rattle.demand.specs.Walk.{rest}
+use Rattle.demand.proofs.Sizes.{fair-positive, tasks-valid, handlers-positive}
+use Rattle.demand.proofs.Slices.{rows-short}
+use Rattle.demand.proofs.Sums.{valid-positive}
+use Rattle.verdict.specs.Loads.{workBy, work, costs}
+use Rattle.verdict.specs.Multiples.{gcd, lcm, lcmFrom, period, capped}
+use Rattle.verdict.proofs.Divisors.{lcm-from-nil, lcm-from-cons, lcm-from-le, lcm-from-positive, lcm-positive}
+use Rattle.verdict.proofs.Loads.{work-nil, work-cons, costs-nil, costs-cons}
+
+module _ (s : List ℕ) (h : length s < 2) where
+  pub work-short : (m : ℕ) → work m (rowsOf s) ≡ 0
+  work-short m = rw (rows-short s h) (work-nil m)
+
+  pub costs-short : costs (rowsOf s) ≡ 0
+  costs-short = rw (rows-short s h) costs-nil
+
+  pub lcm-short : (a : ℕ) → a ≤ ticksMost → a ≡ capped (lcmFrom a (rowsOf s))
+  lcm-short a most = rw (rows-short s h, lcm-from-nil a, le-ltb ticksMost a most)
+
+module _ (s : List ℕ) (r : Row) (e : rowsOf s ≡ r ∷ rowsOf (rest s)) where
+  pub work-head : (m x : ℕ) → x ≡ work m (rowsOf (rest s)) → workBy m r + x ≡ work m (rowsOf s)
+  work-head m x q = rw (e, work-cons m r (rowsOf (rest s)), q)
+
+  pub costs-head : (x : ℕ) → x ≡ costs (rowsOf (rest s)) → r .cost + x ≡ costs (rowsOf s)
+  costs-head x q = rw (e, costs-cons r (rowsOf (rest s)), q)
+
+  pub fair-rest : Each FairRow (rowsOf s) → FairRow r × Each FairRow (rowsOf (rest s))
+  fair-rest f = rw e at f
+
+  -- A partial multiple above the limit: the whole is too.
+  pub lcm-over : (a : ℕ) → 0 < a → Each FairRow (rowsOf s) → ticksMost < lcm a (r .period) → 0 ≡ capped (lcmFrom a (rowsOf s))
+  lcm-over a pos fair over =
+      let f = fair-rest fair in
+      let whole : lcm a (r .period) ≤ lcmFrom (lcm a (r .period)) (rowsOf (rest s)) =
+      lcm-from-le (lcm a (r .period)) (rowsOf (rest s)) (lcm-positive a (r .period) pos (f .0 .period .least)) (fair-positive (rowsOf (rest s)) (f .1)) in
+      rw (e, lcm-from-cons a r (rowsOf (rest s)), lt-ltb ticksMost (lcmFrom (lcm a (r .period)) (rowsOf (rest s))) (omega arith))
+
+  pub lcm-on : (a x : ℕ) → x ≡ capped (lcmFrom (lcm a (r .period)) (rowsOf (rest s))) → x ≡ capped (lcmFrom a (rowsOf s))
+  lcm-on a x q = rw (e, lcm-from-cons a r (rowsOf (rest s))) q
+
+-- The partial multiple, as the code makes it: by the divisor in hand. It fits a word.
+pub lcm-read : (a g p : ℕ) → g ≡ gcd a p → a / g * p ≡ lcm a p
+unfolding lcm
+lcm-read a g p e = rw e
+
+pub lcm-fits : (a g p : ℕ) → a ≤ ticksMost → p ≤ figureMost → a / g * p ≤ 1000000000000000
+lcm-fits a g p ha hp = mul-le-mul (le-trans (div-le-self a g) ha) hp
+
+-- What a capped multiple says.
+pub capped-zero : (m : ℕ) → 0 < m → 0 ≡ capped m → ticksMost < m
+capped-zero m pos e = go (ltb ticksMost m) refl e
+  where
+    go : (b : Bool) → ltb ticksMost m ≡ b → 0 ≡ pick b 0 m → ticksMost < m
+    go true t q = ltb-true ticksMost m t
+    go false t q = absurd (omega arith)
+
+pub capped-some : (m r : ℕ) → 0 < r → r ≡ capped m → (r ≡ m) × (m ≤ ticksMost)
+capped-some m r pos e = go (ltb ticksMost m) refl e
+  where
+    go : (b : Bool) → ltb ticksMost m ≡ b → r ≡ pick b 0 m → (r ≡ m) × (m ≤ ticksMost)
+    go true t q = absurd (omega arith)
+    go false t q = (q, ltb-false ticksMost m t)
+
+-- ---- H of a table in range, from the tasks' multiple
+
+module _ (t h : List ℕ) (e : tableRefusal t h ≡ 0) where
+  -- The tasks' multiple above the limit: H is too.
+  pub period-over : 0 ≡ capped (lcmFrom 1 (tasksOf t)) → 0 ≡ capped (period (tasksOf t) (handlersOf h))
+  unfolding period
+  period-over none =
+      let some : 0 < lcmFrom 1 (tasksOf t) = lcm-from-positive 1 (tasksOf t) (omega arith) (valid-positive (tasksOf t) (tasks-valid t h e)) in
+      let over : ticksMost < lcmFrom 1 (tasksOf t) = capped-zero (lcmFrom 1 (tasksOf t)) some none in
+      let whole = lcm-from-le (lcmFrom 1 (tasksOf t)) (handlersOf h) some (handlers-positive t h e) in
+      rw (lt-ltb ticksMost (lcmFrom (lcmFrom 1 (tasksOf t)) (handlersOf h)) (omega (arith, whole)))
+
+  module _ (a : ℕ) (some : 0 < a) (ea : a ≡ capped (lcmFrom 1 (tasksOf t))) where
+    pub tasks-multiple : a ≤ ticksMost
+    tasks-multiple = let c = capped-some (lcmFrom 1 (tasksOf t)) a some ea in omega arith
+
+    pub period-read : (r : ℕ) → r ≡ capped (lcmFrom a (handlersOf h)) → r ≡ capped (period (tasksOf t) (handlersOf h))
+    unfolding period
+    period-read r er = er ∙ ap (λ (m : ℕ). capped (lcmFrom m (handlersOf h))) (capped-some (lcmFrom 1 (tasksOf t)) a some ea .0)

@@ -1,0 +1,120 @@
+-- Answers that meet the promise, from what the code has in hand.
+use mathlib.Core.List.{List}
+use mathlib.Core.Path.{_≡_, refl, sym, subst, _∙_}
+use native.Mathlib.Omega.{arith}
+use Prim.Native.Nat.{ℕ, _+_, _*_, _≤_, _<_}
+use Rattle.demand.specs.Limits.{ticksMost}
+use Rattle.demand.specs.Refusals.{tableRefusal}
+use Rattle.demand.specs.Rows.{Row, tasksOf, handlersOf}
+use Rattle.demand.proofs.Sizes.{tasks-valid, handlers-positive}
+use Rattle.demand.proofs.Sums.{valid-positive}
+use Rattle.verdict.specs.Facts.{PassesTo, FoundAt, FoundSays, endBy, searchEnd}
+use Rattle.verdict.specs.Loads.{work, whole, costs, nearest, load}
+use Rattle.verdict.specs.Multiples.{period, capped}
+use Rattle.verdict.specs.Promise.{figures, verdictRefusal, SaysBy, Says, VerdictSays}
+use Rattle.verdict.specs.declared.Answer.{Answer}
+use Rattle.verdict.specs.declared.Answer.the-variants as answer
+use Rattle.verdict.specs.declared.search.Found.{Found}
+use Rattle.verdict.specs.declared.search.Found.the-variants as found
+use Rattle.verdict.proofs.Divisors.{period-positive}
+use Rattle.verdict.proofs.Ends.{end-le, end-enough}
+use Rattle.verdict.proofs.Heads.{capped-zero, capped-some}
+use Rattle.verdict.proofs.Loads.{work-most, costs-most}
+use Rattle.verdict.proofs.Readable.{readable-in-range, readable-period, readable-zero, period-small, refused-4, refused-table}
+
+-- ---- W, the load and the end, of the H in hand
+
+module _ (ts hs : List Row) (h w v : ℕ) (eh : h ≡ period ts hs) (ew : w ≡ work h ts) (ev : v ≡ work h hs) where
+  pub whole-read : w + v ≡ whole ts hs
+  unfolding whole
+  whole-read = rw (ew, ev, eh)
+
+  pub load-read : (l : ℕ) → l ≡ nearest (1000000 * (w + v)) h → l ≡ load ts hs
+  unfolding load
+  load-read l e = e ∙ rw (whole-read, eh)
+
+  pub end-read : (e n : ℕ) → e ≡ costs hs → n ≡ endBy h (w + v) e → n ≡ searchEnd ts hs
+  unfolding searchEnd
+  end-read e n ee en = en ∙ rw (whole-read, eh, ee)
+
+-- ---- on a readable table they fit
+
+module _ (t h : List ℕ) (readable : verdictRefusal t h ≡ 0) (m : ℕ) (em : m ≡ period (tasksOf t) (handlersOf h)) where
+  pub whole-most : (w v : ℕ) → w ≡ work m (tasksOf t) → v ≡ work m (handlersOf h) → (w + v ≤ 128000000 * m) × (0 < m) × (m ≤ ticksMost)
+  whole-most w v ew ev =
+      let small = period-small t h readable m em in
+      let tasks = work-most m 64 (tasksOf t) (small .1 .rows) (small .1 .count) in
+      let handlers = work-most m 64 (handlersOf h) (small .2 .rows) (small .2 .count) in
+      (omega arith, small .0, small .1 .ticks)
+
+  pub costs-fit : (e : ℕ) → e ≡ costs (handlersOf h) → (0 < m) × (m ≤ ticksMost) × (e ≤ 1000000000)
+  costs-fit e ee =
+      let small = period-small t h readable m em in
+      (small .0, small .1 .ticks, omega (arith, costs-most (handlersOf h) (small .2 .rows), small .2 .count))
+
+  pub end-fits : (n : ℕ) → n ≡ searchEnd (tasksOf t) (handlersOf h) → n ≤ ticksMost
+  end-fits n en = omega (arith, end-le (tasksOf t) (handlersOf h), readable-period t h readable)
+
+-- ---- the three answers
+
+module _ (t h : List ℕ) where
+  pub says-refused : (number : ℕ) → number ≡ tableRefusal t h → 0 < number → VerdictSays t h (answer.Refused number)
+  unfolding VerdictSays Says SaysBy figures
+  says-refused number e some =
+      let same = refused-table t h (omega arith) in
+      record {
+        unreadable = omega (arith, same);
+        code = e ∙ sym same;
+        interval = refl;
+        handler = refl;
+        task = refl;
+        load = refl;
+      }
+
+  module _ (e : tableRefusal t h ≡ 0) where
+    pub says-refused-4 : (m : ℕ) → m ≡ capped (period (tasksOf t) (handlersOf h)) → m ≡ 0 → VerdictSays t h (answer.Refused 4)
+    unfolding VerdictSays Says SaysBy figures
+    says-refused-4 m em none =
+        let pos = period-positive (tasksOf t) (handlersOf h) (valid-positive (tasksOf t) (tasks-valid t h e)) (handlers-positive t h e) in
+        let four = refused-4 t h e (capped-zero (period (tasksOf t) (handlersOf h)) pos (sym none ∙ em)) in
+        record {
+          unreadable = omega (arith, four);
+          code = sym four;
+          interval = refl;
+          handler = refl;
+          task = refl;
+          load = refl;
+        }
+
+    pub says-readable : (m : ℕ) → m ≡ capped (period (tasksOf t) (handlersOf h)) → 0 < m → (verdictRefusal t h ≡ 0) × (m ≡ period (tasksOf t) (handlersOf h))
+    says-readable m em some =
+        let within = capped-some (period (tasksOf t) (handlersOf h)) m some em in
+        (readable-zero t h e (within .1), within .0)
+
+  module _ (readable : verdictRefusal t h ≡ 0) (l n : ℕ) (el : l ≡ load (tasksOf t) (handlersOf h)) (en : n ≡ searchEnd (tasksOf t) (handlersOf h)) where
+    pub says-fits : (r : Found) → FoundSays (tasksOf t) (handlersOf h) n r → r ≡ found.Nothing → VerdictSays t h (answer.Fits l)
+    unfolding VerdictSays Says SaysBy figures FoundSays
+    says-fits r says e =
+        let passes : PassesTo (tasksOf t) (handlersOf h) n = subst (FoundSays (tasksOf t) (handlersOf h) n) e says in
+        record {
+          readable = readable;
+          passes = end-enough (tasksOf t) (handlersOf h) (readable-in-range t h readable) (rw en at passes);
+          code = refl;
+          interval = refl;
+          handler = refl;
+          task = refl;
+          load = el;
+        }
+
+    pub says-misses : (r : Found) (i f d : ℕ) → FoundSays (tasksOf t) (handlersOf h) n r → r ≡ found.At i f d → VerdictSays t h (answer.Misses i f d l)
+    unfolding VerdictSays Says SaysBy figures FoundSays
+    says-misses r i f d says e =
+        let at : FoundAt (tasksOf t) (handlersOf h) n i f d = subst (FoundSays (tasksOf t) (handlersOf h) n) e says in
+        record {
+          readable = readable;
+          shortest = at .shortest;
+          code = refl;
+          handler = at .handler;
+          task = at .task;
+          load = el;
+        }

@@ -1,0 +1,92 @@
+use mathlib.Core.Path.{_≡_, sym, _∙_}
+use native.Mathlib.Omega.{arith}
+use Rattle.demand.specs.Rows.{tasksOf, handlersOf}
+use Rattle.demand.proofs.Sizes.{small-less}
+use Rattle.verdict.specs.Facts.{FoundSays}
+use Rattle.verdict.proofs.Ends.{end-le}
+use Rattle.verdict.proofs.Loads.{work-most, costs-most}
+use Rattle.verdict.proofs.Readable.{readable-table, readable-period, period-small}
+use Rattle.verdict.proofs.Sayings.{load-read, end-read, whole-most, costs-fit, end-fits, says-fits, says-misses}
+use borrow.Author.Needs.{needs}
+use Rattle.verdict.proofs.judged.Statement.{statement}
+use Rattle.verdict.proofs.judged.Tie as tie
+use Rattle.verdict.proofs.judged.Reads as reads
+use Rattle.verdict.proofs.judged.Lts as lts
+use Rattle.verdict.proofs.load.costs.Reads as costs-reads
+use Rattle.verdict.proofs.load.of_work.Reads as of-work-reads
+use Rattle.verdict.proofs.load.work.Reads as work-reads
+use Rattle.verdict.proofs.search.end_of.Reads as end-of-reads
+use Rattle.verdict.proofs.search.first_failing.Reads as first-failing-reads
+
+work-requires : tie.Need-work-requires
+work-requires c κs = period-small _ _ (c .before .before .pre .0) _ (c .before .before .pre .1) .1
+
+work-requires-2 : tie.Need-work-requires-2
+work-requires-2 c κs = period-small _ _ (c .before .before .before .pre .0) _ (c .before .before .before .pre .1) .2
+
+add-w : tie.Need-add-w
+add-w c =
+    let x = c .before .before .before .before in
+    omega (arith, whole-most _ _ (x .pre .0) (x .args .h) (x .pre .1) _ _ (c .before .work .ensures) (c .work2 .ensures))
+
+of-work-requires : tie.Need-of-work-requires
+of-work-requires c κs =
+    let x = c .before .before .before .before in
+    whole-most _ _ (x .pre .0) _ (x .pre .1) _ _ (c .before .work .ensures) (c .work2 .ensures)
+
+costs-requires : tie.Need-costs-requires
+costs-requires c κs =
+    let x = c .before .before .before .before .before in
+    small-less _ _ _ (omega arith) (period-small _ _ (x .pre .0) _ (x .pre .1) .2)
+
+end-of-requires : tie.Need-end-of-requires
+end-of-requires c κs =
+    let x = c .before .before .before .before .before .before in
+    costs-fit _ _ (x .pre .0) _ (x .pre .1) _ (c .costs .ensures)
+
+first-failing-requires : tie.Need-first-failing-requires
+first-failing-requires c κs =
+    let x = c .before .before .before .before .before .before .before in
+    let works = c .before .before .before .before in
+    let end = end-read _ _ _ _ _ (x .pre .1) (works .work .ensures) (c .before .before .before .work2 .ensures) _ _ (c .before .costs .ensures) (c .end-of .ensures) in
+    (readable-table _ _ (x .pre .0), end-fits _ _ (x .pre .0) _ (x .pre .1) _ end)
+
+enum-known-found : tie.Need-enum-known-found
+enum-known-found c = search needs
+
+enum-told : tie.Need-enum-told
+enum-told c = search needs
+
+returns : tie.Need-returns
+returns c =
+    let x = c .before .before .before .before .before .before .before .before .before .before .before in
+    let tasks = c .before .before .before .before .before .before .before .before .work .ensures in
+    let handlers = c .before .before .before .before .before .before .before .work2 .ensures in
+    let load = load-read _ _ _ _ _ (x .pre .1) tasks handlers _ (c .before .before .before .before .before .before .of-work .ensures) in
+    let end = end-read _ _ _ _ _ (x .pre .1) tasks handlers _ _ (c .before .before .before .before .before .costs .ensures) (c .before .before .before .before .end-of .ensures) in
+    says-misses _ _ (x .pre .0) _ _ load end _ _ _ _ (c .before .before .before .first-failing .ensures) (c .before .found .given .1)
+
+returns-2 : tie.Need-returns-2
+returns-2 c =
+    let x = c .before .before .before .before .before .before .before .before .before .before in
+    let tasks = c .before .before .before .before .before .before .before .work .ensures in
+    let handlers = c .before .before .before .before .before .before .work2 .ensures in
+    let load = load-read _ _ _ _ _ (x .pre .1) tasks handlers _ (c .before .before .before .before .before .of-work .ensures) in
+    let end = end-read _ _ _ _ _ (x .pre .1) tasks handlers _ _ (c .before .before .before .before .costs .ensures) (c .before .before .before .end-of .ensures) in
+    says-fits _ _ (x .pre .0) _ _ load end _ (c .before .before .first-failing .ensures) (c .enum-told .given .1)
+
+pub judged-spec : {M : Type 1} → statement M
+judged-spec =
+    tie.close
+    (tie.spec
+    work-requires
+    work-requires-2
+    add-w
+    of-work-requires
+    costs-requires
+    end-of-requires
+    first-failing-requires
+    enum-known-found
+    enum-told
+    returns
+    returns-2)

@@ -1,0 +1,30 @@
+use mathlib.Core.Path.{_≡_, sym, _∙_}
+use native.Mathlib.Nat.{pos-of-ne-zero}
+use native.Mathlib.Omega.{arith}
+use Rattle.demand.proofs.Refused.{refusal-in-range}
+use Rattle.verdict.proofs.Heads.{period-over, tasks-multiple, period-read}
+use Rattle.verdict.proofs.multiples.of_table.Statement.{statement}
+use Rattle.verdict.proofs.multiples.of_table.Tie as tie
+use Rattle.verdict.proofs.multiples.of_table.Reads as reads
+use Rattle.verdict.proofs.multiples.of_table.Lts as lts
+use Rattle.verdict.proofs.multiples.lcm_from.Reads as lcm-from-reads
+
+lcm-from-requires : tie.Need-lcm-from-requires
+lcm-from-requires c κs = (refusal-in-range _ _ (c .before .before .pre) .tasks, omega arith, omega arith)
+
+returns : tie.Need-returns
+returns c = period-over _ _ (c .before .before .before .before .pre) (sym (c .if1 .taken) ∙ c .before .lcm-from .ensures)
+
+lcm-from-requires-2 : tie.Need-lcm-from-requires-2
+lcm-from-requires-2 c κs =
+    let in-range = c .before .before .before .before .pre in
+    let some = pos-of-ne-zero (c .if1 .left) in
+    (refusal-in-range _ _ in-range .handlers, some, tasks-multiple _ _ in-range _ some (c .before .lcm-from .ensures))
+
+returns-2 : tie.Need-returns-2
+returns-2 c =
+    let in-range = c .before .before .before .before .before .pre in
+    period-read _ _ in-range _ (pos-of-ne-zero (c .before .if1 .left)) (c .before .before .lcm-from .ensures) _ (c .lcm-from2 .ensures)
+
+pub of-table-spec : {M : Type 1} → statement M
+of-table-spec = tie.close (tie.spec lcm-from-requires returns lcm-from-requires-2 returns-2)
