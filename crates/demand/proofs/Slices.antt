@@ -4,12 +4,12 @@ use mathlib.Core.List.{List, [], _∷_}
 use mathlib.Core.Path.{_≡_, refl, ap, sym, _∙_}
 use native.Mathlib.Nat.{div-eq-sub-div, div-eq-of-lt}
 use native.Mathlib.Omega.{arith}
-use Prim.Native.Nat.{ℕ, suc, _+_, _-_, _*_, _/_, _≤_, _<_, min}
+use Prim.Native.Nat.{ℕ, zero, suc, _+_, _-_, _*_, _/_, _≤_, _<_, min}
 use lib.ListN.{length, getD, take, drop, length-drop}
 use lib.Seq.{take-all}
 use Rattle.demand.specs.Demands.{calledBy, dueBy, called, due}
 use Rattle.demand.specs.Refusals.{FairRow}
-use Rattle.demand.specs.Rows.{Row, rowsOf, total, some}
+use Rattle.demand.specs.Rows.{Row, rowsOf, rowAt, total, some}
 use Rattle.demand.specs.Walk.{rest, nextMultiple, Small}
 
 -- the row at the head
@@ -38,6 +38,14 @@ unfolding rowsOf
 rows-count [] = refl
 rows-count (c ∷ []) = refl
 rows-count (c ∷ p ∷ s) = omega (arith, rows-count s)
+
+-- The row at place i is the two numbers from place 2i on.
+pub rows-at : (s : List ℕ) (i : ℕ) → suc (i + i) < length s → rowAt (rowsOf s) i ≡ record { cost = getD s (i + i) 0; period = getD s (suc (i + i)) 0 }
+unfolding rowsOf
+rows-at [] i h = absurd (omega arith)
+rows-at (c ∷ []) i h = absurd (omega arith)
+rows-at (c ∷ p ∷ s) zero h = refl
+rows-at (c ∷ p ∷ s) (suc i) h = let e : suc i + suc i ≡ suc (suc (i + i)) = omega arith in rw e (rows-at s i (omega arith))
 
 -- The row at the head, from the two numbers read there.
 pub head-read : (s : List ℕ) (c p : ℕ) → 2 ≤ length s → c ≡ getD s 0 0 → p ≡ getD s 1 0 → rowsOf s ≡ record { cost = c; period = p } ∷ rowsOf (rest s)

@@ -3,6 +3,7 @@
 --   deadlineOf r             == the ticks that a job of task r has from its arrival: its period
 --   rowsOf s                 == the rows of the flat list s: cost, period, cost, period, ..
 --   tasksOf t, handlersOf h  == the rows of the list of tasks, of the list of handlers
+--   rowAt rs i               == the row at place i, noRow past the last
 --   total g rs               == the sum of g over the rows rs
 --   some test rs             == the test holds of a row of rs
 --   Each P rs                P holds of every row of rs
@@ -10,6 +11,7 @@
 --   Valid ts                 every deadline is from 1 to its period
 use mathlib.Core.Bool.{Bool, false, _||_}
 use mathlib.Core.List.{List, [], _∷_}
+use lib.ListN.{getD}
 use Prim.Native.Nat.{ℕ, _+_, _≤_, _<_}
 
 pub record Row : Type 0 where
@@ -30,6 +32,12 @@ tasksOf t = rowsOf t
 
 abbrev pub handlersOf : List ℕ → List Row
 handlersOf h = rowsOf h
+
+abbrev pub noRow : Row
+noRow = record { cost = 0; period = 0 }
+
+abbrev pub rowAt : List Row → ℕ → Row
+rowAt rs i = getD rs i noRow
 
 unfoldable pub total : (Row → ℕ) → List Row → ℕ
 total g [] = 0
