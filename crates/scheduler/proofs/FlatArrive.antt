@@ -5,9 +5,9 @@ use mathlib.Core.Path.{_≡_, refl, ap₂}
 use native.Mathlib.Omega.{arith}
 use lib.ListN.{length, getD}
 use Prim.Native.Nat.{ℕ, zero, suc, _+_, _≤_, _<_}
-use Rattle.demand.specs.Rows.{Row}
+use Rattle.demand.specs.Rows.{Row, rowAt}
 use Rattle.scheduler.specs.Machine.{Live, arrive, Legal, arriveAll, LegalAll, OnTime}
-use Rattle.scheduler.specs.Places.{liveOf, Fits, rowAt, dueAt}
+use Rattle.scheduler.specs.Places.{liveOf, Fits, dueAt}
 use Rattle.scheduler.proofs.Flat.{fits-rest}
 
 pub record Arrived (t w : ℕ) (r : Row) (n o n' o' : ℕ) : Type 0 where

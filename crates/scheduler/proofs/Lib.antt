@@ -6,7 +6,6 @@ pub mod Beats
 pub mod No
 pub mod Least
 pub mod Choice
-pub mod Missing
 pub mod Flat
 pub mod FlatArrive
 pub mod Examples

@@ -1,13 +1,12 @@
 -- Rows at work as a run holds them: for the rows of a table a list of next arrivals and a list of work owed, read by place.
 --   liveOf rs ns os   == the rows rs at work, with next arrivals ns and work owed os
 --   Fits rs ns os     the lists have a number for each row
---   rowAt rs j        == the row at place j, noRow past the last
 --   dueAt rs ns j     == the deadline of the last job of the task at place j
 use mathlib.Core.List.{List, [], _∷_}
 use mathlib.Core.Path.{_≡_}
 use Prim.Native.Nat.{ℕ, _-_}
 use lib.ListN.{length, getD}
-use Rattle.demand.specs.Rows.{Row, deadlineOf}
+use Rattle.demand.specs.Rows.{Row, deadlineOf, rowAt}
 use Rattle.scheduler.specs.Machine.{Live}
 
 unfoldable pub liveOf : List Row → List ℕ → List ℕ → List Live
@@ -19,12 +18,6 @@ liveOf (r ∷ rs) (n ∷ ns) (o ∷ os) = record { row = r; next = n; owed = o }
 pub record Fits (rs : List Row) (ns os : List ℕ) : Type 0 where
   pub nexts : length ns ≡ length rs
   pub owes : length os ≡ length rs
-
-abbrev pub noRow : Row
-noRow = record { cost = 0; period = 0 }
-
-abbrev pub rowAt : List Row → ℕ → Row
-rowAt rs j = getD rs j noRow
 
 abbrev pub dueAt : List Row → List ℕ → ℕ → ℕ
 dueAt rs ns j = getD ns j 0 - (rowAt rs j .period - deadlineOf (rowAt rs j))
