@@ -1,5 +1,4 @@
 -- Who gets a tick over the lists that a run holds, by place.
---   liveAt rs ns os j   == the row at work at place j
 use mathlib.Core.List.{List, [], _∷_}
 use mathlib.Core.Path.{_≡_, refl}
 use native.Mathlib.Omega.{arith}
@@ -7,12 +6,9 @@ use lib.ListN.{length, getD, set}
 use Prim.Native.Nat.{ℕ, zero, suc, _≤_, _<_}
 use Rattle.demand.specs.Rows.{Row, rowAt}
 use Rattle.scheduler.specs.Machine.{Live, dueOf, beforeBy, left, serve, chosen, pick, edf}
-use Rattle.scheduler.specs.Places.{liveOf, Fits, dueAt}
+use Rattle.scheduler.specs.Places.{liveOf, liveAt, Fits, dueAt}
 use Rattle.scheduler.proofs.Choice.{Idle, From, none-before}
 use Rattle.scheduler.proofs.Room.{share-in}
-
-abbrev pub liveAt : List Row → List ℕ → List ℕ → ℕ → Live
-liveAt rs ns os j = record { row = rowAt rs j; next = getD ns j 0; owed = getD os j 0 }
 
 -- The lists behind the first row fit too.
 pub fits-rest : {r : Row} {rs : List Row} {n o : ℕ} {ns os : List ℕ} → Fits (r ∷ rs) (n ∷ ns) (o ∷ os) → Fits rs ns os

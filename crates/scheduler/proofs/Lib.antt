@@ -8,4 +8,13 @@ pub mod Least
 pub mod Choice
 pub mod Flat
 pub mod FlatArrive
+pub mod Scan
+pub mod RowPlaces
+pub mod Earliest
+pub mod Copies
+pub mod Goes
+pub mod Clauses
+pub mod Answers
+pub mod Tables
+pub mod Ticks
 pub mod Examples
