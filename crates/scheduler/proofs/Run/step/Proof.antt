@@ -1,0 +1,24 @@
+use mathlib.Core.Path.{_≡_, sym, _∙_}
+use Rattle.scheduler.proofs.Answers.{step-ticks, step-refused}
+use borrow.Author.Needs.{needs}
+use Rattle.scheduler.proofs.Run.step.Statement.{statement}
+use Rattle.scheduler.proofs.Run.step.Tie as tie
+use Rattle.scheduler.proofs.Run.step.Reads as reads
+use Rattle.scheduler.proofs.Run.step.Lts as lts
+use Rattle.scheduler.proofs.refusal.of_step.Reads as of-step-reads
+use Rattle.scheduler.proofs.tick.ticked.Reads as ticked-reads
+
+of-step-requires : tie.Need-of-step-requires
+of-step-requires c κs = search needs
+
+ticked-requires : tie.Need-ticked-requires
+ticked-requires c κs = sym (c .before .of-step .ensures) ∙ c .if1 .taken
+
+returns : tie.Need-returns
+returns c = c .ticked .ensures ∙ sym (step-ticks _ _ _ (sym (c .before .before .of-step .ensures) ∙ c .before .if1 .taken))
+
+returns-2 : tie.Need-returns-2
+returns-2 c = sym (step-refused _ _ _ _ (c .before .of-step .ensures) (c .if1 .left))
+
+pub step-spec : {M : Type 1} → statement M
+step-spec = tie.close (tie.spec of-step-requires ticked-requires returns returns-2)

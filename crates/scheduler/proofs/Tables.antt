@@ -1,0 +1,67 @@
+-- A table without a refusal has whole rows and room in a run; how a fresh run is put together.
+use mathlib.Core.Bool.{Bool, true, false, _||_, false≢true}
+use mathlib.Core.List.{List, [], _∷_, _++_}
+use mathlib.Core.Path.{_≡_, refl, sym, ap, _∙_}
+use native.Mathlib.Omega.{arith}
+use borrow.Author.Tests.{eqb-false, eq-eqb, ne-eqb}
+use Prim.Native.Nat.{ℕ, zero, suc, _-_, _*_, _/_, _%_, _≤_}
+use lib.Dec.{eqb}
+use lib.ListN.{length, drop, replicate}
+use Rattle.demand.proofs.Refused.{not-refused, refusal-in-range}
+use Rattle.demand.proofs.Slices.{rows-count}
+use Rattle.demand.specs.Refusals.{odd, tableThen, tableRefusal, InRange}
+use Rattle.demand.specs.Rows.{tasksOf, handlersOf}
+use Rattle.scheduler.specs.Runs.{runOf}
+use Rattle.scheduler.specs.Start.{padded, zeros, freshRun, noRun, freshOf}
+use Rattle.scheduler.specs.declared.Late.the-variants.{Nobody}
+use Rattle.scheduler.specs.declared.Run.{Run}
+use Rattle.scheduler.specs.declared.Start.the-variants.{Ready, Refused}
+use Rattle.scheduler.proofs.Scan.{neither}
+
+pub record Whole (t h : List ℕ) : Type 0 where
+  pub tasks : length t ≡ 2 * length (tasksOf t)
+  pub handlers : length h ≡ 2 * length (handlersOf h)
+  pub in-range : InRange (tasksOf t) (handlersOf h)
+
+-- No odd count: two numbers a row.
+even : (s : List ℕ) → odd s ≡ false → length s ≡ 2 * (length s / 2)
+even s e = let apart : length s % 2 ≡ 1 → ⊥ = eqb-false _ _ e in omega arith
+
+pub whole : (t h : List ℕ) → tableRefusal t h ≡ 0 → Whole t h
+unfolding tableRefusal tableThen
+whole t h e =
+    let counts = neither (odd t) (odd h) (not-refused 0 (odd t || odd h) _ e .0) in
+    record {
+      tasks = omega (arith, even t (counts .0), rows-count t);
+      handlers = omega (arith, even h (counts .1), rows-count h);
+      in-range = refusal-in-range t h e;
+    }
+
+pub tasks-fit : (t h : List ℕ) → tableRefusal t h ≡ 0 → length t ≤ 128
+tasks-fit t h e = let w = whole t h e in omega (arith, w .tasks, w .in-range .tasks-most)
+
+pub handlers-fit : (t h : List ℕ) → tableRefusal t h ≡ 0 → length h ≤ 32
+handlers-fit t h e = let w = whole t h e in omega (arith, w .handlers, w .in-range .handlers-most)
+
+-- ---- the fresh run
+
+drop-replicate : (k n : ℕ) → drop {A = ℕ} k (replicate n 0) ≡ replicate (n - k) 0
+drop-replicate zero n = let e : n - 0 ≡ n = omega arith in rw e
+drop-replicate (suc k) zero = let e : 0 - suc k ≡ 0 = omega arith in rw e
+drop-replicate (suc k) (suc n) = let e : suc n - suc k ≡ n - k = omega arith in rw e (drop-replicate k n)
+
+pub fresh-made : (t h ts hs : List ℕ) → ts ≡ t ++ drop (length t) (replicate 128 0) → hs ≡ h ++ drop (length h) (replicate 32 0)
+    → runOf ts hs (length t / 2) (length h / 2) 0 zeros zeros false Nobody ≡ freshRun t h
+unfolding freshRun padded
+fresh-made t h ts hs et eh =
+    let nt = rows-count t in
+    let nh = rows-count h in
+    rw (et, eh, nt, nh, drop-replicate (length t) 128, drop-replicate (length h) 32)
+
+pub fresh-ready : (t h : List ℕ) → tableRefusal t h ≡ 0 → freshOf t h ≡ record { run = freshRun t h; answer = Ready }
+unfolding freshOf
+fresh-ready t h e = simp (eq-eqb _ _ e)
+
+pub fresh-refused : (t h : List ℕ) (k : ℕ) → k ≡ tableRefusal t h → (k ≡ 0 → ⊥) → freshOf t h ≡ record { run = noRun; answer = Refused k }
+unfolding freshOf
+fresh-refused t h k e n = rw (← e, ne-eqb k 0 n)

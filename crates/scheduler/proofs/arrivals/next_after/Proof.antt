@@ -1,0 +1,18 @@
+use borrow.Author.Tests.{eq-eqb, ne-eqb}
+use borrow.Author.Needs.{needs}
+use Rattle.scheduler.proofs.arrivals.next_after.Statement.{statement}
+use Rattle.scheduler.proofs.arrivals.next_after.Tie as tie
+use Rattle.scheduler.proofs.arrivals.next_after.Reads as reads
+use Rattle.scheduler.proofs.arrivals.next_after.Lts as lts
+
+add-result : tie.Need-add-result
+add-result c = search needs
+
+returns : tie.Need-returns
+returns c = simp (eq-eqb _ _ (c .if1 .taken))
+
+returns-2 : tie.Need-returns-2
+returns-2 c = simp (ne-eqb _ _ (c .if1 .left))
+
+pub next-after-spec : {M : Type 1} → statement M
+next-after-spec = tie.close (tie.spec add-result returns returns-2)

@@ -1,0 +1,65 @@
+use mathlib.Core.Path.{_≡_, refl, sym, ap}
+use Prim.Native.Nat.{ℕ, _≤_, _<_, _-_}
+use lib.Dec.{ltb}
+use lib.ListN.{length}
+use Rattle.demand.specs.Rows.{Row}
+use Rattle.scheduler.specs.Runs.{rowOn}
+use Rattle.scheduler.specs.Scans.{any}
+use Rattle.scheduler.specs.Steps.{heavy}
+use Rattle.scheduler.proofs.Scan.{at-end, any-zero, any-turn}
+use borrow.Author.Needs.{needs}
+use Rattle.scheduler.proofs.arrivals.some_heavy.Statement.{statement}
+use Rattle.scheduler.proofs.arrivals.some_heavy.Tie as tie
+use Rattle.scheduler.proofs.arrivals.some_heavy.Reads as reads
+use Rattle.scheduler.proofs.arrivals.some_heavy.Lts as lts
+use Rattle.scheduler.proofs.arrivals.wide.Reads as wide-reads
+use Rattle.scheduler.proofs.rows.row_at.Reads as row-at-reads
+
+abbrev Inv-loop : tie.InvT-loop
+Inv-loop tasks handlers n m arrivals bad₀ k₀ bad k = (k ≤ length arrivals) × (bad ≡ any (heavy (rowOn tasks handlers n) arrivals) k)
+
+abbrev μ-loop : tie.MeasureT-loop
+μ-loop tasks handlers n m arrivals bad₀ k₀ bad k = length arrivals - k
+
+loop-holds : tie.Need-loop-holds Inv-loop μ-loop
+loop-holds c = (search needs, sym (any-zero _))
+
+row-at-requires : tie.Need-row-at-requires Inv-loop μ-loop
+row-at-requires c κs = search needs
+
+mul-wide : tie.Need-mul-wide Inv-loop μ-loop
+mul-wide c = search needs
+
+shared-slice-read-wide : tie.Need-shared-slice-read-wide Inv-loop μ-loop
+shared-slice-read-wide c = search needs
+
+wide-requires : tie.Need-wide-requires Inv-loop μ-loop
+wide-requires c κs = search needs
+
+add-k : tie.Need-add-k Inv-loop μ-loop
+add-k c = search needs
+
+loop-less : tie.Need-loop-less Inv-loop μ-loop
+loop-less c = search needs
+
+loop-again : tie.Need-loop-again Inv-loop μ-loop
+loop-again c = (search needs, any-turn _ _ _ _ (c .before .before .before .before .before .loop .inv .1) (simp (c .before .wide .ensures .0, ap (λ (r : Row). r .cost) (c .before .before .before .row-at .ensures))))
+
+returns : tie.Need-returns Inv-loop μ-loop
+returns c = at-end (any _) _ _ (c .before .loop .inv .0) (c .loop-test .left) (c .before .loop .inv .1)
+
+pub some-heavy-spec : {M : Type 1} → statement M
+some-heavy-spec =
+    tie.close
+    (tie.spec
+    Inv-loop
+    μ-loop
+    loop-holds
+    row-at-requires
+    mul-wide
+    shared-slice-read-wide
+    wide-requires
+    add-k
+    loop-less
+    loop-again
+    returns)

@@ -1,0 +1,75 @@
+use mathlib.Core.Path.{_≡_, sym, _∙_}
+use Rattle.scheduler.proofs.Clauses.{fitting, out-counts, out-figures, out-places, out-clock, out-rest}
+use borrow.Author.Needs.{needs}
+use Rattle.scheduler.proofs.bounds.out_of_bounds.Statement.{statement}
+use Rattle.scheduler.proofs.bounds.out_of_bounds.Tie as tie
+use Rattle.scheduler.proofs.bounds.out_of_bounds.Reads as reads
+use Rattle.scheduler.proofs.bounds.out_of_bounds.Lts as lts
+use Rattle.scheduler.proofs.bounds.deadline_missed.Reads as deadline-missed-reads
+use Rattle.scheduler.proofs.bounds.figures_outside.Reads as figures-outside-reads
+use Rattle.scheduler.proofs.bounds.late_out.Reads as late-out-reads
+use Rattle.scheduler.proofs.bounds.miscounts.Reads as miscounts-reads
+use Rattle.scheduler.proofs.bounds.places_used.Reads as places-used-reads
+use Rattle.scheduler.proofs.bounds.rows_out.Reads as rows-out-reads
+
+miscounts-requires : tie.Need-miscounts-requires
+miscounts-requires c κs = search needs
+
+returns : tie.Need-returns
+returns c = out-counts _ (sym (c .before .miscounts .ensures) ∙ c .if1 .taken)
+
+figures-outside-requires : tie.Need-figures-outside-requires
+figures-outside-requires c κs = fitting _ _ (sym (c .before .miscounts .ensures) ∙ c .if1 .left)
+
+returns-2 : tie.Need-returns-2
+returns-2 c =
+    let counts = sym (c .before .before .before .miscounts .ensures) ∙ c .before .before .if1 .left in
+    out-figures _ counts (sym (c .before .figures-outside .ensures) ∙ c .if2 .taken)
+
+places-used-requires : tie.Need-places-used-requires
+places-used-requires c κs = fitting _ _ (sym (c .before .before .before .miscounts .ensures) ∙ c .before .before .if1 .left)
+
+returns-3 : tie.Need-returns-3
+returns-3 c =
+    let counts = sym (c .before .before .before .before .before .miscounts .ensures) ∙ c .before .before .before .before .if1 .left in
+    let figures = sym (c .before .before .before .figures-outside .ensures) ∙ c .before .before .if2 .left in
+    out-places _ counts figures (sym (c .before .places-used .ensures) ∙ c .if3 .taken)
+
+returns-4 : tie.Need-returns-4
+returns-4 c =
+    let counts = sym (c .before .before .before .before .before .before .miscounts .ensures) ∙ c .before .before .before .before .before .if1 .left in
+    let figures = sym (c .before .before .before .before .figures-outside .ensures) ∙ c .before .before .before .if2 .left in
+    let places = sym (c .before .before .places-used .ensures) ∙ c .before .if3 .left in
+    out-clock _ counts figures places (c .if4 .taken)
+
+rows-out-requires : tie.Need-rows-out-requires
+rows-out-requires c κs = (fitting _ _ (sym (c .before .before .before .before .before .before .miscounts .ensures) ∙ c .before .before .before .before .before .if1 .left), c .if4 .left, sym (c .before .before .before .before .figures-outside .ensures) ∙ c .before .before .before .if2 .left)
+
+deadline-missed-requires : tie.Need-deadline-missed-requires
+deadline-missed-requires c κs = let x = c .before .before .before .before .before .before .before .before .args in fitting (x .n) (x .m) (sym (c .before .before .before .before .before .before .before .miscounts .ensures) ∙ c .before .before .before .before .before .before .if1 .left) .tasks
+
+late-out-requires : tie.Need-late-out-requires
+late-out-requires c κs = let x = c .before .before .before .before .before .before .before .before .before .args in fitting (x .n) (x .m) (sym (c .before .before .before .before .before .before .before .before .miscounts .ensures) ∙ c .before .before .before .before .before .before .before .if1 .left) .tasks
+
+returns-5 : tie.Need-returns-5
+returns-5 c =
+    let counts = sym (c .before .before .before .before .before .before .before .before .before .miscounts .ensures) ∙ c .before .before .before .before .before .before .before .before .if1 .left in
+    let figures = sym (c .before .before .before .before .before .before .before .figures-outside .ensures) ∙ c .before .before .before .before .before .before .if2 .left in
+    let places = sym (c .before .before .before .before .before .places-used .ensures) ∙ c .before .before .before .before .if3 .left in
+    out-rest _ counts figures places (c .before .before .before .if4 .left) _ _ _ (c .before .before .rows-out .ensures) (c .before .deadline-missed .ensures) (c .late-out .ensures)
+
+pub out-of-bounds-spec : {M : Type 1} → statement M
+out-of-bounds-spec =
+    tie.close
+    (tie.spec
+    miscounts-requires
+    returns
+    figures-outside-requires
+    returns-2
+    places-used-requires
+    returns-3
+    returns-4
+    rows-out-requires
+    deadline-missed-requires
+    late-out-requires
+    returns-5)

@@ -1,0 +1,25 @@
+use borrow.Author.Needs.{needs}
+use Rattle.scheduler.proofs.bounds.rows_out.Statement.{statement}
+use Rattle.scheduler.proofs.bounds.rows_out.Tie as tie
+use Rattle.scheduler.proofs.bounds.rows_out.Reads as reads
+use Rattle.scheduler.proofs.bounds.rows_out.Lts as lts
+use Rattle.scheduler.proofs.bounds.handler_too_much.Reads as handler-too-much-reads
+use Rattle.scheduler.proofs.bounds.next_too_far.Reads as next-too-far-reads
+use Rattle.scheduler.proofs.bounds.task_too_much.Reads as task-too-much-reads
+
+next-too-far-requires : tie.Need-next-too-far-requires
+next-too-far-requires c κs = search needs
+
+task-too-much-requires : tie.Need-task-too-much-requires
+task-too-much-requires c κs = search needs
+
+handler-too-much-requires : tie.Need-handler-too-much-requires
+handler-too-much-requires c κs = search needs
+
+returns : tie.Need-returns
+returns c = rw (c .before .before .next-too-far .ensures, c .before .task-too-much .ensures, c .handler-too-much .ensures)
+
+pub rows-out-spec : {M : Type 1} → statement M
+rows-out-spec =
+    tie.close
+    (tie.spec next-too-far-requires task-too-much-requires handler-too-much-requires returns)

@@ -1,0 +1,13 @@
+use Rattle.scheduler.proofs.tick.better.Statement.{statement}
+use Rattle.scheduler.proofs.tick.better.Tie as tie
+use Rattle.scheduler.proofs.tick.better.Reads as reads
+use Rattle.scheduler.proofs.tick.better.Lts as lts
+
+returns : tie.Need-returns
+returns c = simp (c .if1 .taken)
+
+returns-2 : tie.Need-returns-2
+returns-2 c = simp (c .if1 .left)
+
+pub better-spec : {M : Type 1} → statement M
+better-spec = tie.close (tie.spec returns returns-2)

@@ -1,0 +1,9 @@
+pub mod Machine
+pub mod Schedules
+pub mod Places
+pub mod Scans
+pub mod Runs
+pub mod Bounds
+pub mod Tick
+pub mod Steps
+pub mod Start

@@ -1,0 +1,43 @@
+-- What `fresh` answers (01, "One tick of the scheduler"): a fresh run is made from a table, with refusals 1 to 3 only.
+--   padded n xs     == xs, and zeros behind it to n numbers
+--   zeros           == 80 zeros: a next arrival or work owed for each place
+--   freshRun t h    == the fresh run of a table: clock 0, all arrivals and work 0, not over
+--   noRun           == a run of zeros, beside a refusal
+--   freshOf t h     == the answer
+--   startFigures    == the paper's number for each case of an answer
+use mathlib.Core.Bool.{false}
+use mathlib.Core.List.{List, _++_}
+use Prim.Native.Nat.{ℕ, _-_}
+use lib.Dec.{eqb}
+use lib.ListN.{length, replicate}
+use Rattle.demand.specs.Refusals.{tableRefusal}
+use Rattle.demand.specs.Rows.{tasksOf, handlersOf}
+use Rattle.demand.specs.Tests.{pick}
+use Rattle.scheduler.specs.Runs.{runOf}
+use Rattle.scheduler.specs.declared.Fresh.{Fresh}
+use Rattle.scheduler.specs.declared.Late.the-variants.{Nobody}
+use Rattle.scheduler.specs.declared.Run.{Run}
+use Rattle.scheduler.specs.declared.Start.{Start}
+use Rattle.scheduler.specs.declared.Start.the-variants.{Ready, Refused}
+
+unfoldable pub padded : ℕ → List ℕ → List ℕ
+padded n xs = xs ++ replicate (n - length xs) 0
+
+unfoldable pub zeros : List ℕ
+zeros = replicate 80 0
+
+unfoldable pub freshRun : List ℕ → List ℕ → Run
+freshRun t h = runOf (padded 128 t) (padded 32 h) (length (tasksOf t)) (length (handlersOf h)) 0 zeros zeros false Nobody
+
+unfoldable pub noRun : Run
+noRun = runOf (replicate 128 0) (replicate 32 0) 0 0 0 zeros zeros false Nobody
+
+unfoldable pub freshOf : List ℕ → List ℕ → Fresh
+freshOf t h =
+    pick (eqb (tableRefusal t h) 0)
+    (record { run = freshRun t h; answer = Ready })
+    (record { run = noRun; answer = Refused (tableRefusal t h) })
+
+unfoldable pub startFigures : Start → ℕ
+startFigures Ready = 0
+startFigures (Refused k) = k

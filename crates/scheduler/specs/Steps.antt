@@ -1,0 +1,91 @@
+-- What `step` answers (01, "One tick of the scheduler" and "Numbered refusals").
+--   stepRefusal r ws     == the lowest refusal of 6 to 11 that applies to a step of run r with arrivals ws, 0 for none
+--   refused r k          == the answer of refusal k: its number, and the run that was given
+--   stepBy key r ws      == the answer, where of the tasks owed work the one with the smallest key runs
+--   stepOf r ws          == the answer, where the earliest deadline runs
+--   figures answer       == the paper's number and values for each case of an answer; what does not apply is 0
+use mathlib.Core.Bool.{Bool, not, _&&_}
+use mathlib.Core.List.{List}
+use Prim.Native.Nat.{ℕ}
+use lib.Dec.{ltb, eqb}
+use lib.ListN.{length, getD}
+use Rattle.demand.specs.Limits.{ticksMost}
+use Rattle.demand.specs.Rows.{Row}
+use Rattle.demand.specs.Tests.{pick, refuse}
+use Rattle.scheduler.specs.Bounds.{outOfBounds}
+use Rattle.scheduler.specs.Machine.{Live, dueOf}
+use Rattle.scheduler.specs.Runs.{rowIn, rowCount}
+use Rattle.scheduler.specs.Scans.{any}
+use Rattle.scheduler.specs.Tick.{tickedBy}
+use Rattle.scheduler.specs.declared.Answer.{Answer}
+use Rattle.scheduler.specs.declared.Answer.the-variants.{Ticked, Refused}
+use Rattle.scheduler.specs.declared.Late.{Late}
+use Rattle.scheduler.specs.declared.Late.the-variants as late
+use Rattle.scheduler.specs.declared.Ran.{Ran}
+use Rattle.scheduler.specs.declared.Ran.the-variants as ran
+use Rattle.scheduler.specs.declared.Run.{Run}
+use Rattle.scheduler.specs.declared.Stepped.{Stepped}
+
+-- 10: an arrival comes before the row's next legal tick
+abbrev pub early : ℕ → List ℕ → List ℕ → ℕ → Bool
+early clock next ws k = not (eqb (getD ws k 0) 0) && ltb clock (getD next k 0)
+
+-- 11: an arrival brings more than the row's cost
+abbrev pub heavy : (ℕ → Row) → List ℕ → ℕ → Bool
+heavy row ws k = ltb (row k .cost) (getD ws k 0)
+
+-- 6: the run is out of bounds; 7: the run is over; 8: the clock is 1,000,000,000; 9: the list has the wrong count of numbers
+unfoldable pub stepRefusal : Run → List ℕ → ℕ
+stepRefusal r ws =
+    refuse 6 (outOfBounds r)
+    (refuse 7 (r .over)
+    (refuse 8 (eqb (r .clock) ticksMost)
+    (refuse 9 (not (eqb (length ws) (rowCount r)))
+    (refuse 10 (any (early (r .clock) (r .next) ws) (rowCount r))
+    (refuse 11 (any (heavy (rowIn r) ws) (rowCount r))
+    0)))))
+
+abbrev pub refused : Run → ℕ → Stepped
+refused r k = record { run = r; answer = Refused k }
+
+unfoldable pub stepBy : (Live → ℕ) → Run → List ℕ → Stepped
+stepBy key r ws = pick (eqb (stepRefusal r ws) 0) (tickedBy key r ws) (refused r (stepRefusal r ws))
+
+abbrev pub stepOf : Run → List ℕ → Stepped
+stepOf r ws = stepBy dueOf r ws
+
+-- ---- the figures
+
+pub data Who : Type 0 where
+  nobody : Who
+  handler : Who
+  task : Who
+
+pub record Figures : Type 0 where
+  pub code : ℕ
+  pub ran : Who
+  pub row : ℕ
+  pub late : Who
+  pub lateRow : ℕ
+
+abbrev pub whoRan : Ran → Who
+whoRan (ran.Handler i) = handler
+whoRan (ran.Task i) = task
+whoRan ran.Idle = nobody
+
+abbrev pub rowRan : Ran → ℕ
+rowRan (ran.Handler i) = i
+rowRan (ran.Task i) = i
+rowRan ran.Idle = 0
+
+abbrev pub whoLate : Late → Who
+whoLate late.Nobody = nobody
+whoLate (late.Task i) = task
+
+abbrev pub rowLate : Late → ℕ
+rowLate late.Nobody = 0
+rowLate (late.Task i) = i
+
+unfoldable pub figures : Answer → Figures
+figures (Ticked ran late) = record { code = 0; ran = whoRan ran; row = rowRan ran; late = whoLate late; lateRow = rowLate late }
+figures (Refused k) = record { code = k; ran = nobody; row = 0; late = nobody; lateRow = 0 }

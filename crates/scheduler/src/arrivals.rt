@@ -1,0 +1,99 @@
+// Arrivals: refusals 10 and 11, and what the arrivals of an accepted step change.
+ghost use mathlib.Core.Bool.{false};
+ghost use mathlib.Core.Path.{_≡_};
+ghost use Prim.Native.Nat.{ℕ, _+_, _<_, _≤_};
+ghost use lib.ListN.{length, getD};
+ghost use Rattle.demand.specs.Limits.{ticksMost};
+ghost use Rattle.scheduler.specs.Bounds.{outsideAt};
+ghost use Rattle.scheduler.specs.Runs.{rowOn, Fitting};
+ghost use Rattle.scheduler.specs.Scans.{any};
+ghost use Rattle.scheduler.specs.Steps.{early, heavy};
+ghost use Rattle.scheduler.specs.Tick.{nextAfter, nextArrived, owedArrived};
+use crate::rows;
+
+fn wide(x: u32) -> u64
+    ensures { λ r. ⌜ (r ≡ x) × (r < 4294967296) ⌝ }
+{
+    x as u64
+}
+
+// Does an arrival come before its row's next legal tick?
+pub fn some_early(next: &[u64; 80], arrivals: &[u32], clock: u64) -> bool
+    requires { ⌜ length (now arrivals) ≤ 80 ⌝ }
+    ensures { λ r. ⌜ r ≡ any (early clock (now (next .entry)) (now (arrivals .entry))) (length (now (arrivals .entry))) ⌝ }
+{
+    let mut bad = false;
+    let mut k = 0;
+    while k < arrivals.len() {
+        let n = next[k];
+        bad = bad | ((arrivals[k] != 0) & (clock < n));
+        k += 1;
+    }
+    bad
+}
+
+// Does an arrival bring more than its row's cost?
+pub fn some_heavy<'a>(
+    tasks: &'a [u32; 128],
+    handlers: &'a [u32; 32],
+    n: usize,
+    m: usize,
+    arrivals: &[u32],
+) -> bool
+    requires { ⌜ Fitting n m × (length (now arrivals) ≡ n + m) ⌝ }
+    ensures { λ r. ⌜ r ≡ any (heavy (rowOn (now (tasks .entry)) (now (handlers .entry)) n) (now (arrivals .entry))) (length (now (arrivals .entry))) ⌝ }
+{
+    let mut bad = false;
+    let mut k = 0;
+    while k < arrivals.len() {
+        let row = rows::row_at(tasks, handlers, n, m, k);
+        let w = wide(arrivals[k]);
+        bad = bad | (row.cost < w);
+        k += 1;
+    }
+    bad
+}
+
+// Arrivals add their work.
+pub fn add_work(owed: &mut [u64; 80], arrivals: &[u32])
+    requires { ⌜ (length (now arrivals) ≤ 80) × ((k : ℕ) → k < length (now arrivals) → getD (now owed) k 0 ≤ 1000000000000000) ⌝ }
+    ensures { λ r. ⌜ now (owed .exit) ≡ owedArrived (now (arrivals .entry)) (length (now (arrivals .entry))) (now (owed .entry)) ⌝ }
+{
+    let mut k = 0;
+    while k < arrivals.len() {
+        let w = wide(arrivals[k]);
+        let o = owed[k];
+        owed[k] = o + w;
+        k += 1;
+    }
+}
+
+fn next_after(clock: u64, period: u64, w: u32, next: u64) -> u64
+    requires { ⌜ (clock ≤ ticksMost) × (period ≤ 1000000) ⌝ }
+    ensures { λ r. ⌜ r ≡ nextAfter clock (record { cost = 0; period = period }) w next ⌝ }
+{
+    if w == 0 { next } else { clock + period }
+}
+
+// An arrival makes its row's next legal arrival clock + period.
+pub fn move_next<'a>(
+    next: &mut [u64; 80],
+    tasks: &'a [u32; 128],
+    handlers: &'a [u32; 32],
+    n: usize,
+    m: usize,
+    clock: u64,
+    arrivals: &[u32],
+)
+    requires { ⌜ Fitting n m × (clock ≤ ticksMost) × (any (outsideAt (rowOn (now tasks) (now handlers) n)) (n + m) ≡ false) × (length (now arrivals) ≡ n + m) ⌝ }
+    ensures { λ r. ⌜ now (next .exit) ≡ nextArrived clock (rowOn (now (tasks .entry)) (now (handlers .entry)) n) (now (arrivals .entry)) (length (now (arrivals .entry))) (now (next .entry)) ⌝ }
+{
+    let mut k = 0;
+    while k < arrivals.len() {
+        let row = rows::row_at(tasks, handlers, n, m, k);
+        let old = next[k];
+        let new = next_after(clock, row.period, arrivals[k], old);
+        next[k] = new;
+        k += 1;
+    }
+}

@@ -1,0 +1,114 @@
+// The scheduler, one tick at a time: a run is a value, which a step takes and hands back.
+mod arrivals;
+mod begin;
+mod bounds;
+mod refusal;
+mod rows;
+mod tick;
+
+ghost use mathlib.Core.Path.{_≡_};
+ghost use Rattle.scheduler.specs.Start.{freshOf};
+ghost use Rattle.scheduler.specs.Steps.{stepOf};
+
+// A run: its table, the clock, for each row the next legal arrival and the work owed (handlers behind tasks), whether it is over, and who was late.
+pub struct Run {
+    pub tasks: [u32; 128],
+    pub handlers: [u32; 32],
+    pub task_count: usize,
+    pub handler_count: usize,
+    pub clock: u64,
+    pub next: [u64; 80],
+    pub owed: [u64; 80],
+    pub over: bool,
+    pub late: Late,
+}
+
+// Who was late.
+pub enum Late {
+    Nobody,
+    Task { row: usize },
+}
+
+// Who ran.
+pub enum Ran {
+    Handler { row: usize },
+    Task { row: usize },
+    Idle,
+}
+
+// Who ran and who is late, or the number of the refusal.
+pub enum Answer {
+    Ticked { ran: Ran, late: Late },
+    Refused { number: u32 },
+}
+
+// The next run beside the answer.
+pub struct Stepped {
+    pub run: Run,
+    pub answer: Answer,
+}
+
+// A fresh run stands beside this, or the number of the refusal.
+pub enum Start {
+    Ready,
+    Refused { number: u32 },
+}
+
+// A fresh run beside the answer.
+pub struct Fresh {
+    pub run: Run,
+    pub answer: Start,
+}
+
+impl Run {
+    pub const TASKS_MOST: usize = 64;
+
+    pub const HANDLERS_MOST: usize = 16;
+
+    pub const TICKS_MOST: u64 = 1_000_000_000;
+
+    // A fresh run of a table: clock 0, all arrivals and work 0, not over.
+    pub fn fresh(tasks: &[u32], handlers: &[u32]) -> Fresh
+        ensures { λ r. ⌜ r ≡ freshOf (now (tasks .entry)) (now (handlers .entry)) ⌝ }
+    {
+        let number = demand::refusal::of_table(tasks, handlers);
+        if number == 0 {
+            Fresh {
+                run: begin::fresh_run(tasks, handlers),
+                answer: Start::Ready,
+            }
+        } else {
+            Fresh {
+                run: begin::no_run(),
+                answer: Start::Refused { number },
+            }
+        }
+    }
+
+    // One tick, with one number per row, tasks then handlers: 0 for no arrival, else the work that it brings.
+    pub fn step(self, arrivals: &[u32]) -> Stepped
+        ensures { λ r. ⌜ r ≡ stepOf self (now (arrivals .entry)) ⌝ }
+    {
+        let late = self.late;
+        let number = refusal::of_step(
+            &self.tasks,
+            &self.handlers,
+            &self.next,
+            &self.owed,
+            self.task_count,
+            self.handler_count,
+            self.clock,
+            self.over,
+            late,
+            arrivals,
+        );
+        if number == 0 {
+            tick::ticked(self, arrivals)
+        } else {
+            Stepped {
+                run: self,
+                answer: Answer::Refused { number },
+            }
+        }
+    }
+}

@@ -1,0 +1,164 @@
+// The tick: who runs, what that leaves owed, who is late.
+ghost use mathlib.Core.Path.{_≡_};
+ghost use Prim.Native.Nat.{_+_, _<_, _≤_};
+ghost use lib.ListN.{length};
+ghost use Rattle.scheduler.specs.Machine.{dueOf};
+ghost use Rattle.scheduler.specs.Scans.{at};
+ghost use Rattle.scheduler.specs.Steps.{stepRefusal};
+ghost use Rattle.scheduler.specs.Tick.{better, earliest, goesTo, paid, Payable, lateRow, isTask, closed, tickedBy};
+use crate::Answer;
+use crate::Late;
+use crate::Ran;
+use crate::Run;
+use crate::Stepped;
+use crate::arrivals;
+
+// The task found so far, and its key.
+pub struct Best {
+    pub found: bool,
+    pub row: usize,
+    pub key: u64,
+}
+
+fn better(best: Best, k: usize, owed: u64, key: u64) -> Best
+    ensures { λ r. ⌜ r ≡ better best k owed key ⌝ }
+{
+    let take = (0 < owed) & (!best.found | (key < best.key));
+    if take {
+        Best {
+            found: true,
+            row: k,
+            key,
+        }
+    } else {
+        best
+    }
+}
+
+// Of the first n tasks, the one with the smallest key among those owed work, lowest row on a tie.
+fn earliest<'a>(keys: &'a [u64; 80], owed: &'a [u64; 80], n: usize) -> Best
+    requires { ⌜ n ≤ 64 ⌝ }
+    ensures { λ r. ⌜ r ≡ earliest (at (now (keys .entry))) (now (owed .entry)) n ⌝ }
+{
+    let mut best = Best {
+        found: false,
+        row: 0,
+        key: 0,
+    };
+    let mut k = 0;
+    while k < n {
+        let o = owed[k];
+        let key = keys[k];
+        best = better(best, k, o, key);
+        k += 1;
+    }
+    best
+}
+
+// To the first handler row that is owed work, else to a task, else to nobody.
+fn goes_to<'a>(keys: &'a [u64; 80], owed: &'a [u64; 80], n: usize, m: usize) -> Ran
+    requires { ⌜ (n ≤ 64) × (m ≤ 16) ⌝ }
+    ensures { λ r. ⌜ r ≡ goesTo (at (now (keys .entry))) (now (owed .entry)) n m ⌝ }
+{
+    let mut i = 0;
+    while i < m {
+        let k = n + i;
+        if 0 < owed[k] {
+            return Ran::Handler { row: i };
+        }
+        i += 1;
+    }
+    let best = earliest(keys, owed, n);
+    if best.found {
+        Ran::Task { row: best.row }
+    } else {
+        Ran::Idle
+    }
+}
+
+// The tick takes one unit of the work of the one to whom it goes.
+fn pay(owed: &mut [u64; 80], n: usize, ran: Ran)
+    requires { ⌜ (n ≤ 64) × Payable (now owed) n ran ⌝ }
+    ensures { λ r. ⌜ now (owed .exit) ≡ paid (now (owed .entry)) n ran ⌝ }
+{
+    match ran {
+        Ran::Handler { row } => {
+            let k = n + row;
+            let o = owed[k];
+            owed[k] = o - 1;
+        }
+        Ran::Task { row } => {
+            let o = owed[row];
+            owed[row] = o - 1;
+        }
+        Ran::Idle => {}
+    }
+}
+
+// The first of n tasks that is owed work at its deadline.
+pub fn late_row<'a>(due: &'a [u64; 80], owed: &'a [u64; 80], n: usize, clock: u64) -> Late
+    requires { ⌜ n ≤ 64 ⌝ }
+    ensures { λ r. ⌜ r ≡ lateRow clock (at (now (due .entry))) (now (owed .entry)) n ⌝ }
+{
+    let mut k = 0;
+    while k < n {
+        let late = (0 < owed[k]) & (due[k] == clock);
+        if late {
+            return Late::Task { row: k };
+        }
+        k += 1;
+    }
+    Late::Nobody
+}
+
+pub fn is_task(late: Late) -> bool
+    ensures { λ r. ⌜ r ≡ isTask late ⌝ }
+{
+    match late {
+        Late::Nobody => false,
+        Late::Task { row: _ } => true,
+    }
+}
+
+// The run one tick on, over where a task is late.
+fn closed(run: Run, next: [u64; 80], owed: [u64; 80], ran: Ran, late: Late) -> Stepped
+    requires { ⌜ run .clock < 1000000000 ⌝ }
+    ensures { λ r. ⌜ r ≡ closed run next owed ran late ⌝ }
+{
+    let tasks = run.tasks;
+    let handlers = run.handlers;
+    let over = is_task(late);
+    let after = Run {
+        tasks,
+        handlers,
+        task_count: run.task_count,
+        handler_count: run.handler_count,
+        clock: run.clock + 1,
+        next,
+        owed,
+        over,
+        late,
+    };
+    Stepped {
+        run: after,
+        answer: Answer::Ticked { ran, late },
+    }
+}
+
+// An accepted step: arrivals, the tick, the clock, the late test. A task's deadline is its next arrival.
+pub fn ticked(run: Run, arrivals: &[u32]) -> Stepped
+    requires { ⌜ stepRefusal run (now arrivals) ≡ 0 ⌝ }
+    ensures { λ r. ⌜ r ≡ tickedBy dueOf run (now (arrivals .entry)) ⌝ }
+{
+    let n = run.task_count;
+    let m = run.handler_count;
+    let clock = run.clock;
+    let mut next = run.next;
+    let mut owed = run.owed;
+    arrivals::move_next(&mut next, &run.tasks, &run.handlers, n, m, clock, arrivals);
+    arrivals::add_work(&mut owed, arrivals);
+    let ran = goes_to(&next, &owed, n, m);
+    pay(&mut owed, n, ran);
+    let late = late_row(&next, &owed, n, clock + 1);
+    closed(run, next, owed, ran, late)
+}
