@@ -1,5 +1,5 @@
 -- The reader accepts exactly the texts of the layout, and reads what they say.
-use mathlib.Core.Bool.{Bool, true, false}
+use mathlib.Core.Bool.{Bool}
 use mathlib.Core.List.{List, [], _∷_, _++_, append-nil, append-assoc}
 use mathlib.Core.Logic.{_⊎_, inl, inr}
 use mathlib.Core.Path.{_≡_, refl, sym, ap, subst, _∙_}
@@ -7,16 +7,15 @@ use native.Mathlib.Nat.{pow-suc}
 use native.Mathlib.Omega.{arith}
 use Prim.Native.Nat.{ℕ, zero, suc, _+_, _-_, _*_, _/_, _%_, _^_, _<_, _≤_}
 use borrow.Author.Tests.{ltb-false, le-ltb, ne-eqb}
-use lib.Dec.{ltb, eqb}
-use lib.ListN.{length, take}
+use lib.Dec.{ltb}
+use lib.ListN.{length}
 use lib.Seq.{take-all}
 use Rattle.demand.specs.Tests.{pick}
 use Rattle.sheet.specs.Ascii.{crlf}
-use Rattle.sheet.specs.Building.{Outcome, none, some, Run, added, next, runFrom, run, ended, outcome}
-use Rattle.sheet.specs.Layout.{Entry, entry, header, nameOf, comma, entryText, body, text, Short, AllShort, FileSays, OneTable}
+use Rattle.sheet.specs.Building.{Outcome, none, some, Run, next, runFrom, run, ended, outcome}
+use Rattle.sheet.specs.Layout.{Entry, entry, header, nameOf, comma, entryText, body, text, AllShort, FileSays, OneTable}
 use Rattle.sheet.specs.Numbers.{lastDigits, decimal}
-use Rattle.sheet.specs.Steps.{stepOf}
-use Rattle.sheet.specs.Table.{ReadSays}
+use Rattle.sheet.specs.Table.{tableOf, ReadSays, OneReading}
 use Rattle.sheet.specs.declared.layout.Kind.{Kind}
 use Rattle.sheet.specs.declared.layout.Kind.the-variants.{Task, Handler}
 use Rattle.sheet.specs.declared.layout.State.{State}
@@ -191,3 +190,10 @@ says-unique bs es fs s t =
     let a : outcome bs ≡ some es = complete bs es s in
     let b : outcome bs ≡ some fs = complete bs fs t in
     cc
+
+pub read-unique : OneReading
+unfolding ReadSays
+read-unique bs t u (inl a) (inl b) = a .2 ∙ ap tableOf (says-unique bs (a .0) (b .0) (a .1) (b .1)) ∙ sym (b .2)
+read-unique bs t u (inl a) (inr b) = absurd (b .0 (a .0) (a .1))
+read-unique bs t u (inr a) (inl b) = absurd (a .0 (b .0) (b .1))
+read-unique bs t u (inr a) (inr b) = a .1 ∙ sym (b .1)

@@ -1,10 +1,10 @@
 -- The table that the reader builds is that of the rows read whole.
-use mathlib.Core.Bool.{Bool, true, false}
+use mathlib.Core.Bool.{Bool, true}
 use mathlib.Core.List.{List, [], _∷_, _++_, append-nil, append-assoc}
 use mathlib.Core.Path.{_≡_, refl, sym, ap, _∙_}
 use native.Mathlib.Numerals.{add-one}
 use native.Mathlib.Omega.{arith}
-use Prim.Native.Nat.{ℕ, suc, _+_, _-_, _*_, _<_, _≤_}
+use Prim.Native.Nat.{ℕ, suc, _+_, _-_, _<_, _≤_}
 use borrow.Author.Tests.{lt-ltb, le-ltb}
 use lib.Dec.{ltb, eqb}
 use lib.ListN.{length, set, take, getD, replicate, length-append, length-take}
@@ -18,7 +18,6 @@ use Rattle.sheet.specs.declared.layout.Kind.{Kind}
 use Rattle.sheet.specs.declared.layout.Kind.the-variants.{Task, Handler}
 use Rattle.sheet.specs.declared.layout.State.{State}
 use Rattle.sheet.specs.declared.layout.State.the-variants.{Broken, Head, HeadCr, Start, Name, CostFirst, Cost, PeriodFirst, Period, RowCr}
-use Rattle.sheet.specs.declared.reader.Flat.{Flat}
 use Rattle.sheet.specs.declared.reader.Table.{Table}
 use Rattle.sheet.proofs.Digits.{by}
 use Rattle.sheet.proofs.Room.{numbers-both, run-most, room}

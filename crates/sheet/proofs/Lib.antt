@@ -7,3 +7,4 @@ pub mod Writes
 pub mod Prints
 pub mod Phrases
 pub mod Sheets
+pub mod CaseNine

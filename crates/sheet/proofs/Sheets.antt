@@ -1,15 +1,15 @@
 -- The whole: the output meets the sheet's promise, and the promise allows no other.
-use mathlib.Core.Bool.{Bool, true, false}
+use mathlib.Core.Bool.{true, false}
 use mathlib.Core.List.{List, []}
-use mathlib.Core.Logic.{_⊎_, inl, inr}
+use mathlib.Core.Logic.{inl, inr}
 use mathlib.Core.Path.{_≡_, refl, sym, ap, subst, _∙_}
 use native.Mathlib.Omega.{arith}
 use Prim.Native.Nat.{ℕ, _-_, _≤_}
 use lib.ListN.{length, take, replicate, length-append}
 use lib.Seq.{take-append-seam}
-use Rattle.sheet.specs.Layout.{Entry, FileSays, SaysNothing}
+use Rattle.sheet.specs.Layout.{Entry}
 use Rattle.sheet.specs.Printed.{printed}
-use Rattle.sheet.specs.Table.{numbersOf, flatOf, tableOf, brokenTable, ReadSays}
+use Rattle.sheet.specs.Table.{numbersOf, flatOf, ReadSays}
 use Rattle.sheet.specs.Text.{Fits}
 use Rattle.sheet.specs.Whole.{fileRefused, FileFigures, outputOf, SheetSays, OneSheet}
 use Rattle.sheet.specs.declared.Output.{Output}

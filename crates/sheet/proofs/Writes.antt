@@ -1,5 +1,4 @@
 -- A text that has room is written whole, byte by byte.
-use mathlib.Core.Bool.{Bool}
 use mathlib.Core.List.{List, [], _∷_, _++_, append-nil, append-assoc}
 use mathlib.Core.Path.{_≡_, refl, sym, ap, subst, _∙_}
 use native.Mathlib.Numerals.{add-one}
@@ -8,7 +7,6 @@ use Prim.Native.Nat.{ℕ, suc, _+_, _-_, _/_, _%_, _^_, _<_, _≤_}
 use borrow.Author.Tests.{lt-ltb}
 use lib.ListN.{length, set, take, getD, replicate, length-append}
 use lib.Seq.{take-append-seam, set-at, take-suc}
-use Rattle.demand.specs.Tests.{pick}
 use Rattle.sheet.specs.Numbers.{decimal}
 use Rattle.sheet.specs.Text.{textOf, blankText, putOf, putsOf, Fits}
 use Rattle.sheet.specs.declared.text.Text.{Text}

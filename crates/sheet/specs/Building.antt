@@ -8,7 +8,6 @@
 --   run bs               == the run over the bytes bs
 --   ended st es          == the rows of a file that ends at st with es read whole, or nothing
 --   outcome bs           == the rows of the file bs, or nothing
-use mathlib.Core.Bool.{Bool}
 use mathlib.Core.List.{List, [], _∷_, _++_}
 use Prim.Native.Nat.{ℕ, _+_, _≤_}
 use lib.Dec.{eqb, ltb}

@@ -8,3 +8,4 @@ pub mod Text
 pub mod Printed
 pub mod English
 pub mod Whole
+pub mod Example

@@ -3,13 +3,11 @@
 --   continues v b    == b may stand behind the digits of v: a digit, behind no leading zero and at most 6 digits
 --   stepOf st b      == where the byte b takes a reader that stands at st
 use mathlib.Core.Bool.{Bool, _&&_}
-use mathlib.Core.List.{List}
 use Prim.Native.Nat.{ℕ, _+_, _-_, _*_}
 use lib.Dec.{eqb, ltb, leb}
 use lib.ListN.{length, getD}
 use Rattle.demand.specs.Tests.{pick}
 use Rattle.sheet.specs.Layout.{header, nameOf, comma}
-use Rattle.sheet.specs.declared.layout.Kind.{Kind}
 use Rattle.sheet.specs.declared.layout.Kind.the-variants.{Task, Handler}
 use Rattle.sheet.specs.declared.layout.State.{State}
 use Rattle.sheet.specs.declared.layout.State.the-variants.{Broken, Head, HeadCr, Start, Name, CostFirst, Cost, PeriodFirst, Period, RowCr}

@@ -4,6 +4,7 @@
 --   tableOf es          == the table of the rows es
 --   bareTable ok        == a table without rows; brokenTable is the answer to a broken file
 --   ReadSays bs t       t is the reader's answer to the file bs: the table of the rows that it says, or broken where it says none
+--   OneReading          a file has one such answer and no other: a statement about ReadSays
 use mathlib.Core.Bool.{Bool, true, false}
 use mathlib.Core.List.{List, [], _∷_, _++_}
 use mathlib.Core.Logic.{_⊎_}
@@ -40,3 +41,6 @@ brokenTable = bareTable false
 
 unfoldable pub ReadSays : List ℕ → Table → Type 0
 ReadSays bs t = ((es : List Entry) × FileSays bs es × (t ≡ tableOf es)) ⊎ (SaysNothing bs × (t ≡ brokenTable))
+
+abbrev pub OneReading : Type 0
+OneReading = (bs : List ℕ) (t u : Table) → ReadSays bs t → ReadSays bs u → t ≡ u

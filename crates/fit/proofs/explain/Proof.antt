@@ -3,12 +3,6 @@ use Rattle.sheet.proofs.Writes.{text-fits}
 use borrow.Author.Needs.{needs}
 use Rattle.fit.proofs.explain.Statement.{statement}
 use Rattle.fit.proofs.explain.Tie as tie
-use Rattle.fit.proofs.explain.Reads as reads
-use Rattle.fit.proofs.explain.Lts as lts
-use Rattle.fit.proofs.print.Reads as print-reads
-use Rattle.io.proofs.print_decimal.Reads as print-decimal-reads
-use Rattle.io.proofs.write_all.Reads as write-all-reads
-use Rattle.sheet.proofs.english.line.Reads as line-reads
 
 slice-aggregate-write-all : tie.Need-slice-aggregate-write-all
 slice-aggregate-write-all c = search needs

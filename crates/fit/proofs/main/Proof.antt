@@ -2,12 +2,6 @@ use Rattle.sheet.proofs.Sheets.{sheet-fits}
 use borrow.Author.Needs.{needs}
 use Rattle.fit.proofs.main.Statement.{statement}
 use Rattle.fit.proofs.main.Tie as tie
-use Rattle.fit.proofs.main.Reads as reads
-use Rattle.fit.proofs.main.Lts as lts
-use Rattle.fit.proofs.explain.Reads as explain-reads
-use Rattle.fit.proofs.print.Reads as print-reads
-use Rattle.io.proofs.read_full.Reads as read-full-reads
-use Rattle.sheet.proofs.sheet.Reads as sheet-reads
 
 slice-aggregate-read-full : tie.Need-slice-aggregate-read-full
 slice-aggregate-read-full c = search needs

@@ -1,10 +1,7 @@
-use mathlib.Core.Path.{ap}
 use Rattle.verdict.specs.Promise.{figures}
 use borrow.Author.Needs.{needs}
 use Rattle.sheet.proofs.refusal_of.Statement.{statement}
 use Rattle.sheet.proofs.refusal_of.Tie as tie
-use Rattle.sheet.proofs.refusal_of.Reads as reads
-use Rattle.sheet.proofs.refusal_of.Lts as lts
 
 enum-told : tie.Need-enum-told
 enum-told c = search needs

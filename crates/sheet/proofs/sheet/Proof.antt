@@ -1,15 +1,8 @@
-use mathlib.Core.Path.{_≡_, sym, _∙_}
-use native.Mathlib.Omega.{arith}
 use borrow.Author.Tests.{not-true, not-false}
 use Rattle.sheet.proofs.Sheets.{read-counted, broken-sheet, table-sheet}
 use borrow.Author.Needs.{needs}
 use Rattle.sheet.proofs.sheet.Statement.{statement}
 use Rattle.sheet.proofs.sheet.Tie as tie
-use Rattle.sheet.proofs.sheet.Reads as reads
-use Rattle.sheet.proofs.sheet.Lts as lts
-use Rattle.sheet.proofs.reader.read.Reads as read-reads
-use Rattle.sheet.proofs.written.Reads as written-reads
-use Rattle.verdict.proofs.verdict.Reads as verdict-reads
 
 read-requires : tie.Need-read-requires
 read-requires c κs = search needs

@@ -1,10 +1,6 @@
 use borrow.Author.Needs.{needs}
 use Rattle.sheet.proofs.written.Statement.{statement}
 use Rattle.sheet.proofs.written.Tie as tie
-use Rattle.sheet.proofs.written.Reads as reads
-use Rattle.sheet.proofs.written.Lts as lts
-use Rattle.sheet.proofs.printed.of_answer.Reads as of-answer-reads
-use Rattle.sheet.proofs.refusal_of.Reads as refusal-of-reads
 
 of-answer-requires : tie.Need-of-answer-requires
 of-answer-requires c κs = search needs

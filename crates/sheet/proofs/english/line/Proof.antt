@@ -5,11 +5,6 @@ use Rattle.sheet.proofs.Phrases.{said, said-past}
 use borrow.Author.Needs.{needs}
 use Rattle.sheet.proofs.english.line.Statement.{statement}
 use Rattle.sheet.proofs.english.line.Tie as tie
-use Rattle.sheet.proofs.english.line.Reads as reads
-use Rattle.sheet.proofs.english.line.Lts as lts
-use Rattle.sheet.proofs.english.of_run.Reads as of-run-reads
-use Rattle.sheet.proofs.english.of_table.Reads as of-table-reads
-use Rattle.sheet.proofs.text.of.Reads as of-reads
 
 slice-aggregate-of : tie.Need-slice-aggregate-of
 slice-aggregate-of c = search needs

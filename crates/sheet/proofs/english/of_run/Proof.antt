@@ -4,9 +4,6 @@ use Rattle.sheet.proofs.Phrases.{said}
 use borrow.Author.Needs.{needs}
 use Rattle.sheet.proofs.english.of_run.Statement.{statement}
 use Rattle.sheet.proofs.english.of_run.Tie as tie
-use Rattle.sheet.proofs.english.of_run.Reads as reads
-use Rattle.sheet.proofs.english.of_run.Lts as lts
-use Rattle.sheet.proofs.text.of.Reads as of-reads
 
 slice-aggregate-of : tie.Need-slice-aggregate-of
 slice-aggregate-of c = search needs

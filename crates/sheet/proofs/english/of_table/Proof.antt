@@ -4,9 +4,6 @@ use Rattle.sheet.proofs.Phrases.{said}
 use borrow.Author.Needs.{needs}
 use Rattle.sheet.proofs.english.of_table.Statement.{statement}
 use Rattle.sheet.proofs.english.of_table.Tie as tie
-use Rattle.sheet.proofs.english.of_table.Reads as reads
-use Rattle.sheet.proofs.english.of_table.Lts as lts
-use Rattle.sheet.proofs.text.of.Reads as of-reads
 
 slice-aggregate-of : tie.Need-slice-aggregate-of
 slice-aggregate-of c = search needs

@@ -1,9 +1,6 @@
 use borrow.Author.Needs.{needs}
 use Rattle.sheet.proofs.layout.continues.Statement.{statement}
 use Rattle.sheet.proofs.layout.continues.Tie as tie
-use Rattle.sheet.proofs.layout.continues.Reads as reads
-use Rattle.sheet.proofs.layout.continues.Lts as lts
-use Rattle.sheet.proofs.layout.is_digit.Reads as is-digit-reads
 
 is-digit-requires : tie.Need-is-digit-requires
 is-digit-requires c κs = search needs

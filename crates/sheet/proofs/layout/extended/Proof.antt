@@ -3,9 +3,6 @@ use Rattle.sheet.proofs.Digits.{digit-true, continues-true}
 use borrow.Author.Needs.{needs}
 use Rattle.sheet.proofs.layout.extended.Statement.{statement}
 use Rattle.sheet.proofs.layout.extended.Tie as tie
-use Rattle.sheet.proofs.layout.extended.Reads as reads
-use Rattle.sheet.proofs.layout.extended.Lts as lts
-use Rattle.sheet.proofs.layout.worth.Reads as worth-reads
 
 mul-result : tie.Need-mul-result
 mul-result c = let w = continues-true (c .args .v) (c .args .b) (c .pre) in omega arith

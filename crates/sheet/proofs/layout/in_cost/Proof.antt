@@ -3,10 +3,6 @@ use borrow.Author.Tests.{eq-eqb, ne-eqb}
 use borrow.Author.Needs.{needs}
 use Rattle.sheet.proofs.layout.in_cost.Statement.{statement}
 use Rattle.sheet.proofs.layout.in_cost.Tie as tie
-use Rattle.sheet.proofs.layout.in_cost.Reads as reads
-use Rattle.sheet.proofs.layout.in_cost.Lts as lts
-use Rattle.sheet.proofs.layout.continues.Reads as continues-reads
-use Rattle.sheet.proofs.layout.extended.Reads as extended-reads
 
 continues-requires : tie.Need-continues-requires
 continues-requires c κs = search needs

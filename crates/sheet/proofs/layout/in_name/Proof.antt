@@ -3,10 +3,6 @@ use borrow.Author.Tests.{lt-ltb, le-ltb, eq-eqb, ne-eqb}
 use borrow.Author.Needs.{needs}
 use Rattle.sheet.proofs.layout.in_name.Statement.{statement}
 use Rattle.sheet.proofs.layout.in_name.Tie as tie
-use Rattle.sheet.proofs.layout.in_name.Reads as reads
-use Rattle.sheet.proofs.layout.in_name.Lts as lts
-use Rattle.sheet.proofs.layout.letter.Reads as letter-reads
-use Rattle.sheet.proofs.layout.name_len.Reads as name-len-reads
 
 name-len-requires : tie.Need-name-len-requires
 name-len-requires c κs = search needs

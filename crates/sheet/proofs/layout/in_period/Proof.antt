@@ -3,10 +3,6 @@ use borrow.Author.Tests.{eq-eqb, ne-eqb}
 use borrow.Author.Needs.{needs}
 use Rattle.sheet.proofs.layout.in_period.Statement.{statement}
 use Rattle.sheet.proofs.layout.in_period.Tie as tie
-use Rattle.sheet.proofs.layout.in_period.Reads as reads
-use Rattle.sheet.proofs.layout.in_period.Lts as lts
-use Rattle.sheet.proofs.layout.continues.Reads as continues-reads
-use Rattle.sheet.proofs.layout.extended.Reads as extended-reads
 
 continues-requires : tie.Need-continues-requires
 continues-requires c κs = search needs

@@ -2,10 +2,6 @@ use mathlib.Core.Path.{sym, _∙_}
 use borrow.Author.Needs.{needs}
 use Rattle.sheet.proofs.layout.in_second.Statement.{statement}
 use Rattle.sheet.proofs.layout.in_second.Tie as tie
-use Rattle.sheet.proofs.layout.in_second.Reads as reads
-use Rattle.sheet.proofs.layout.in_second.Lts as lts
-use Rattle.sheet.proofs.layout.is_digit.Reads as is-digit-reads
-use Rattle.sheet.proofs.layout.worth.Reads as worth-reads
 
 is-digit-requires : tie.Need-is-digit-requires
 is-digit-requires c κs = search needs

@@ -5,8 +5,6 @@ use Rattle.sheet.specs.declared.layout.Kind.the-variants.{Task, Handler}
 use borrow.Author.Needs.{needs}
 use Rattle.sheet.proofs.layout.letter.Statement.{statement}
 use Rattle.sheet.proofs.layout.letter.Tie as tie
-use Rattle.sheet.proofs.layout.letter.Reads as reads
-use Rattle.sheet.proofs.layout.letter.Lts as lts
 
 enum-told : tie.Need-enum-told
 enum-told c = search needs

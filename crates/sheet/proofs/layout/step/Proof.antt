@@ -1,16 +1,6 @@
 use borrow.Author.Needs.{needs}
 use Rattle.sheet.proofs.layout.step.Statement.{statement}
 use Rattle.sheet.proofs.layout.step.Tie as tie
-use Rattle.sheet.proofs.layout.step.Reads as reads
-use Rattle.sheet.proofs.layout.step.Lts as lts
-use Rattle.sheet.proofs.layout.at_end.Reads as at-end-reads
-use Rattle.sheet.proofs.layout.at_start.Reads as at-start-reads
-use Rattle.sheet.proofs.layout.in_cost.Reads as in-cost-reads
-use Rattle.sheet.proofs.layout.in_first.Reads as in-first-reads
-use Rattle.sheet.proofs.layout.in_head.Reads as in-head-reads
-use Rattle.sheet.proofs.layout.in_name.Reads as in-name-reads
-use Rattle.sheet.proofs.layout.in_period.Reads as in-period-reads
-use Rattle.sheet.proofs.layout.in_second.Reads as in-second-reads
 
 enum-told : tie.Need-enum-told
 enum-told c = search needs

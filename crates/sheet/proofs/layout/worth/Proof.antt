@@ -3,8 +3,6 @@ use Rattle.sheet.proofs.Digits.{digit-true}
 use borrow.Author.Needs.{needs}
 use Rattle.sheet.proofs.layout.worth.Statement.{statement}
 use Rattle.sheet.proofs.layout.worth.Tie as tie
-use Rattle.sheet.proofs.layout.worth.Reads as reads
-use Rattle.sheet.proofs.layout.worth.Lts as lts
 
 sub-result : tie.Need-sub-result
 sub-result c = let d = digit-true (c .args .b) (c .pre) in omega arith

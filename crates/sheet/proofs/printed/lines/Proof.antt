@@ -2,12 +2,6 @@ use Rattle.sheet.proofs.Prints.{chained}
 use borrow.Author.Needs.{needs}
 use Rattle.sheet.proofs.printed.lines.Statement.{statement}
 use Rattle.sheet.proofs.printed.lines.Tie as tie
-use Rattle.sheet.proofs.printed.lines.Reads as reads
-use Rattle.sheet.proofs.printed.lines.Lts as lts
-use Rattle.sheet.proofs.text.number.Reads as number-reads
-use Rattle.sheet.proofs.text.of.Reads as of-reads
-use Rattle.sheet.proofs.text.put.Reads as put-reads
-use Rattle.sheet.proofs.text.puts.Reads as puts-reads
 
 slice-aggregate-of : tie.Need-slice-aggregate-of
 slice-aggregate-of c = search needs

@@ -1,15 +1,9 @@
-use mathlib.Core.Path.{sym, ap}
-use Rattle.sheet.specs.Printed.{printed}
-use Rattle.sheet.specs.Text.{textOf}
 use Rattle.verdict.specs.Promise.{figures}
 use Rattle.verdict.specs.declared.Answer.the-variants as answer
 use Rattle.sheet.proofs.Prints.{lines-printed}
 use borrow.Author.Needs.{needs}
 use Rattle.sheet.proofs.printed.of_answer.Statement.{statement}
 use Rattle.sheet.proofs.printed.of_answer.Tie as tie
-use Rattle.sheet.proofs.printed.of_answer.Reads as reads
-use Rattle.sheet.proofs.printed.of_answer.Lts as lts
-use Rattle.sheet.proofs.printed.lines.Reads as lines-reads
 
 enum-known-answer : tie.Need-enum-known-answer
 enum-known-answer c = search needs

@@ -1,4 +1,4 @@
-use mathlib.Core.List.{List, [], _∷_}
+use mathlib.Core.List.{[], _∷_}
 use mathlib.Core.Path.{_≡_, refl, sym, _∙_}
 use borrow.Author.Tests.{lt-ltb, le-ltb}
 use denote.Enum.Declared.{tagOf}
@@ -12,10 +12,6 @@ use Rattle.sheet.proofs.layout.State.{the-type}
 use borrow.Author.Needs.{needs}
 use Rattle.sheet.proofs.reader.close.Statement.{statement}
 use Rattle.sheet.proofs.reader.close.Tie as tie
-use Rattle.sheet.proofs.reader.close.Reads as reads
-use Rattle.sheet.proofs.reader.close.Lts as lts
-use Rattle.sheet.proofs.reader.bare.Reads as bare-reads
-use Rattle.sheet.proofs.reader.push.Reads as push-reads
 
 -- The states at which no file may end.
 lost : (t : Table) (st : State) → OneOf (0 ∷ 2 ∷ 4 ∷ 5 ∷ 6 ∷ 7 ∷ 9 ∷ []) (tagOf the-type st) → closed t st ≡ brokenTable

@@ -1,4 +1,4 @@
-use mathlib.Core.List.{List, [], _∷_}
+use mathlib.Core.List.{[], _∷_}
 use mathlib.Core.Path.{_≡_, refl, sym}
 use Prim.Native.Nat.{ℕ}
 use borrow.Author.Tests.{eq-eqb, ne-eqb}
@@ -12,9 +12,6 @@ use Rattle.sheet.proofs.layout.State.{the-type}
 use borrow.Author.Needs.{needs}
 use Rattle.sheet.proofs.reader.feed.Statement.{statement}
 use Rattle.sheet.proofs.reader.feed.Tie as tie
-use Rattle.sheet.proofs.reader.feed.Reads as reads
-use Rattle.sheet.proofs.reader.feed.Lts as lts
-use Rattle.sheet.proofs.reader.push.Reads as push-reads
 
 -- No state but RowCr ends a row.
 kept : (t : Table) (st : State) (b : ℕ) → OneOf (0 ∷ 1 ∷ 2 ∷ 3 ∷ 4 ∷ 5 ∷ 6 ∷ 7 ∷ 8 ∷ []) (tagOf the-type st) → fed t st b ≡ t

@@ -1,9 +1,6 @@
 use borrow.Author.Needs.{needs}
 use Rattle.sheet.proofs.reader.push.Statement.{statement}
 use Rattle.sheet.proofs.reader.push.Tie as tie
-use Rattle.sheet.proofs.reader.push.Reads as reads
-use Rattle.sheet.proofs.reader.push.Lts as lts
-use Rattle.sheet.proofs.reader.with_row.Reads as with-row-reads
 
 enum-told : tie.Need-enum-told
 enum-told c = search needs

@@ -9,12 +9,6 @@ use Rattle.sheet.proofs.Accepts.{read-says}
 use Rattle.sheet.proofs.Builds.{loop-room, loop-state, loop-table, loop-ends, over-long}
 use Rattle.sheet.proofs.reader.read.Statement.{statement}
 use Rattle.sheet.proofs.reader.read.Tie as tie
-use Rattle.sheet.proofs.reader.read.Reads as reads
-use Rattle.sheet.proofs.reader.read.Lts as lts
-use Rattle.sheet.proofs.layout.step.Reads as step-reads
-use Rattle.sheet.proofs.reader.bare.Reads as bare-reads
-use Rattle.sheet.proofs.reader.close.Reads as close-reads
-use Rattle.sheet.proofs.reader.feed.Reads as feed-reads
 
 abbrev Inv-loop : tie.InvT-loop
 Inv-loop bytes t₀ st₀ i₀ t st i = (i ≤ length bytes) × (length bytes ≤ 4096) × (st ≡ run (take i bytes) .st) × (t ≡ tableOf (run (take i bytes) .rows))

@@ -1,10 +1,9 @@
-use mathlib.Core.Path.{_≡_, ap, _∙_}
+use mathlib.Core.Path.{ap, _∙_}
 use native.Mathlib.Omega.{arith}
-use Prim.Native.Nat.{_+_, _%_}
-use Rattle.sheet.specs.Text.{putOf, putsOf}
+use Rattle.sheet.specs.Text.{putOf}
 use Rattle.sheet.specs.declared.text.Text.{Text}
 use Rattle.sheet.proofs.Writes.{puts-digit, puts-digits}
-use Prim.Native.Nat.{ℕ, _<_}
+use Prim.Native.Nat.{ℕ, _+_, _%_, _<_}
 use borrow.Fn.Kinds.{In}
 use borrow.Fn.PlainCycle.{Measures, is, falls, and}
 use Rattle.sheet.proofs.text.number.Reads as number

@@ -1,13 +1,6 @@
-use mathlib.Core.Path.{ap, _∙_}
-use Rattle.sheet.specs.Text.{putsOf}
-use Rattle.sheet.specs.declared.text.Text.{Text}
 use borrow.Author.Needs.{needs}
 use Rattle.sheet.proofs.text.of.Statement.{statement}
 use Rattle.sheet.proofs.text.of.Tie as tie
-use Rattle.sheet.proofs.text.of.Reads as reads
-use Rattle.sheet.proofs.text.of.Lts as lts
-use Rattle.sheet.proofs.text.blank.Reads as blank-reads
-use Rattle.sheet.proofs.text.puts.Reads as puts-reads
 
 blank-requires : tie.Need-blank-requires
 blank-requires c κs = search needs

@@ -3,8 +3,6 @@ use Rattle.sheet.specs.Text.{putOf}
 use borrow.Author.Needs.{needs}
 use Rattle.sheet.proofs.text.put.Statement.{statement}
 use Rattle.sheet.proofs.text.put.Tie as tie
-use Rattle.sheet.proofs.text.put.Reads as reads
-use Rattle.sheet.proofs.text.put.Lts as lts
 
 element-write-text : tie.Need-element-write-text
 element-write-text c = search needs

@@ -9,9 +9,6 @@ use Rattle.sheet.specs.declared.text.Text.{Text}
 use Rattle.sheet.proofs.Writes.{puts-none, puts-take}
 use Rattle.sheet.proofs.text.puts.Statement.{statement}
 use Rattle.sheet.proofs.text.puts.Tie as tie
-use Rattle.sheet.proofs.text.puts.Reads as reads
-use Rattle.sheet.proofs.text.puts.Lts as lts
-use Rattle.sheet.proofs.text.put.Reads as put-reads
 
 abbrev Inv-loop : tie.InvT-loop
 Inv-loop s out₀ i₀ out i = (i ≤ length s) × (out ≡ putsOf out₀ (take i s))
