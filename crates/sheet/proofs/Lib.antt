@@ -1,0 +1,10 @@
+pub mod Digits
+pub mod Standing
+pub mod Room
+pub mod Builds
+pub mod Accepts
+pub mod Writes
+pub mod Prints
+pub mod Phrases
+pub mod Sheets
+pub mod CaseNine

@@ -1,0 +1,90 @@
+-- The whole: the output meets the sheet's promise, and the promise allows no other.
+use mathlib.Core.Bool.{true, false}
+use mathlib.Core.List.{List, []}
+use mathlib.Core.Logic.{inl, inr}
+use mathlib.Core.Path.{_≡_, refl, sym, ap, subst, _∙_}
+use native.Mathlib.Omega.{arith}
+use Prim.Native.Nat.{ℕ, _-_, _≤_}
+use lib.ListN.{length, take, replicate, length-append}
+use lib.Seq.{take-append-seam}
+use Rattle.sheet.specs.Layout.{Entry}
+use Rattle.sheet.specs.Printed.{printed}
+use Rattle.sheet.specs.Table.{numbersOf, flatOf, ReadSays}
+use Rattle.sheet.specs.Text.{Fits}
+use Rattle.sheet.specs.Whole.{fileRefused, FileFigures, outputOf, SheetSays, OneSheet}
+use Rattle.sheet.specs.declared.Output.{Output}
+use Rattle.sheet.specs.declared.layout.Kind.the-variants.{Task, Handler}
+use Rattle.sheet.specs.declared.reader.Flat.{Flat}
+use Rattle.sheet.specs.declared.reader.Table.{Table}
+use Rattle.verdict.specs.Promise.{Figures, figures, Says, VerdictSays}
+use Rattle.verdict.specs.declared.Answer.{Answer}
+use Rattle.verdict.specs.declared.Answer.the-variants as answer
+use Rattle.verdict.proofs.Once as verdict
+use Rattle.sheet.proofs.Accepts.{says-unique}
+use Rattle.sheet.proofs.Writes.{text-fits}
+
+-- ---- a flat list, and the numbers in it
+
+abbrev pub listed : Flat → List ℕ
+listed f = take (f .len) (f .numbers)
+
+flat-listed : (s : List ℕ) → listed (flatOf s) ≡ s
+flat-listed s = take-append-seam s (replicate (816 - length s) 0)
+
+-- What lending the numbers in it asks.
+abbrev Counted : Flat → Type 0
+Counted f = (f .len ≤ length (f .numbers)) × (f .len ≡ length (listed f))
+
+flat-counted : (s : List ℕ) → Counted (flatOf s)
+flat-counted s = (rw length-append (omega arith), ap length (sym (flat-listed s)))
+
+abbrev BothCounted : Table → Type 0
+BothCounted t = Counted (t .tasks) × Counted (t .handlers)
+
+pub read-counted : (bs : List ℕ) (t : Table) → ReadSays bs t → BothCounted t
+unfolding ReadSays
+read-counted bs t (inl r) = subst BothCounted (sym (r .2)) (flat-counted (numbersOf Task (r .0)), flat-counted (numbersOf Handler (r .0)))
+read-counted bs t (inr r) = subst BothCounted (sym (r .1)) (flat-counted [], flat-counted [])
+
+-- ---- the output meets the promise
+
+clash : (P : Type 0) → true ≡ false → P
+clash P e =
+    let z : _≡_ {A = ℕ} 0 1 = cc in
+    let f : ⊥ = omega arith in
+    absurd f
+
+module _ (bs : List ℕ) (t : Table) (out : Output) where
+  pub broken-sheet : ReadSays bs t → t .ok ≡ false → out ≡ outputOf (figures (answer.Refused 12)) → SheetSays bs out
+  unfolding ReadSays figures
+  broken-sheet (inl r) broken e = clash _ (sym (ap (λ (x : Table). x .ok) (r .2)) ∙ broken)
+  broken-sheet (inr r) broken e = record { sheet = fileRefused; figures = inr (r .0, refl); written = e }
+
+  pub table-sheet : ReadSays bs t → t .ok ≡ true → (a : Answer) → VerdictSays (listed (t .tasks)) (listed (t .handlers)) a → out ≡ outputOf (figures a) → SheetSays bs out
+  unfolding ReadSays VerdictSays
+  table-sheet (inl r) ok a says e =
+      let tasks : listed (t .tasks) ≡ numbersOf Task (r .0) = ap (λ (x : Table). listed (x .tasks)) (r .2) ∙ flat-listed (numbersOf Task (r .0)) in
+      let handlers : listed (t .handlers) ≡ numbersOf Handler (r .0) = ap (λ (x : Table). listed (x .handlers)) (r .2) ∙ flat-listed (numbersOf Handler (r .0)) in
+      let told : Says (numbersOf Task (r .0)) (numbersOf Handler (r .0)) (figures a) =
+      subst (λ (s : List ℕ). Says (numbersOf Task (r .0)) s (figures a)) handlers (subst (λ (s : List ℕ). Says s (listed (t .handlers)) (figures a)) tasks says) in
+      record { sheet = figures a; figures = inl (r .0, r .1, told); written = e }
+  table-sheet (inr r) ok a says e = clash _ (sym ok ∙ ap (λ (x : Table). x .ok) (r .1))
+
+-- ---- and no other does
+
+file-unique : (bs : List ℕ) (f g : Figures) → FileFigures bs f → FileFigures bs g → f ≡ g
+file-unique bs f g (inl a) (inl b) =
+    let same : b .0 ≡ a .0 = says-unique bs (b .0) (a .0) (b .1) (a .1) in
+    verdict.says-unique (numbersOf Task (a .0)) (numbersOf Handler (a .0)) f g (a .2)
+    (subst (λ (es : List Entry). Says (numbersOf Task es) (numbersOf Handler es) g) same (b .2))
+file-unique bs f g (inl a) (inr b) = absurd (b .0 (a .0) (a .1))
+file-unique bs f g (inr a) (inl b) = absurd (a .0 (b .0) (b .1))
+file-unique bs f g (inr a) (inr b) = a .1 ∙ sym (b .1)
+
+pub sheet-unique : OneSheet
+sheet-unique bs a b s t = s .written ∙ ap outputOf (file-unique bs (s .sheet) (t .sheet) (s .figures) (t .figures)) ∙ sym (t .written)
+
+-- ---- what a program writes of it
+
+pub sheet-fits : (bs : List ℕ) (out : Output) → SheetSays bs out → Fits (out .text)
+sheet-fits bs out s = text-fits (printed (s .sheet)) (out .text) (ap (λ (o : Output). o .text) (s .written))

@@ -1,0 +1,11 @@
+pub mod Ascii
+pub mod Numbers
+pub mod Layout
+pub mod Table
+pub mod Steps
+pub mod Building
+pub mod Text
+pub mod Printed
+pub mod English
+pub mod Whole
+pub mod Example

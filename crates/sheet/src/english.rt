@@ -1,0 +1,48 @@
+// The English line of a refusal number: the table's own words.
+ghost use mathlib.Core.Path.{_≡_};
+ghost use Prim.Native.Nat.{_≤_};
+ghost use Rattle.sheet.specs.English.{english};
+ghost use Rattle.sheet.specs.Text.{textOf};
+use crate::text;
+use crate::text::Text;
+
+// Refusals of a table, and of a question about it.
+fn of_table(number: u32) -> Text
+    requires { ⌜ (1 ≤ number) × (number ≤ 5) ⌝ }
+    ensures { λ r. ⌜ r ≡ textOf (english number) ⌝ }
+{
+    match number {
+        1 => text::of(b"a list has an odd count of numbers"),
+        2 => text::of(b"no task, over 64 tasks or over 16 handlers"),
+        3 => text::of(b"a cost or period is 0 or above 1,000,000"),
+        4 => text::of(b"H is above 1,000,000,000"),
+        _ => text::of(b"an interval above 1,000,000,000 is asked about"),
+    }
+}
+
+// Refusals of a run, and of a step of it.
+fn of_run(number: u32) -> Text
+    requires { ⌜ (6 ≤ number) × (number ≤ 11) ⌝ }
+    ensures { λ r. ⌜ r ≡ textOf (english number) ⌝ }
+{
+    match number {
+        6 => text::of(b"the run is out of bounds"),
+        7 => text::of(b"the run is over"),
+        8 => text::of(b"the clock is 1,000,000,000"),
+        9 => text::of(b"a step's list has the wrong count of numbers"),
+        10 => text::of(b"an arrival comes before the row's next legal tick"),
+        _ => text::of(b"an arrival brings more than the row's cost"),
+    }
+}
+
+// The line of any number.
+pub fn line(number: u32) -> Text
+    ensures { λ r. ⌜ r ≡ textOf (english number) ⌝ }
+{
+    match number {
+        1..=5 => of_table(number),
+        6..=11 => of_run(number),
+        12 => text::of(b"the file breaks the layout below"),
+        _ => text::of(b"unknown"),
+    }
+}

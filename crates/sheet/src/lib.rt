@@ -1,0 +1,61 @@
+// The sheet of a file: a table in, two printed lines out.
+pub mod english;
+mod layout;
+pub mod printed;
+pub mod reader;
+pub mod text;
+
+ghost use mathlib.Core.Path.{_≡_};
+ghost use Rattle.verdict.specs.Promise.{figures};
+ghost use Rattle.sheet.specs.Whole.{outputOf, SheetSays};
+use text::Text;
+use verdict::Answer;
+
+// What is written: the two lines, and the number of the refusal, 0 for none.
+pub struct Output {
+    pub text: Text,
+    pub refusal: u32,
+}
+
+// From the bytes of a file to the bytes of its sheet; a file that breaks the layout is refused before all.
+pub fn sheet(input: &[u8]) -> Output
+    ensures { λ r. ⌜ SheetSays (now (input .entry)) r ⌝ }
+{
+    let table = reader::read(input);
+    let ok = table.ok;
+    if !ok {
+        return written(Answer::Refused { number: 12 });
+    }
+    let tasks = table.tasks;
+    let handlers = table.handlers;
+    let task_numbers = tasks.numbers;
+    let handler_numbers = handlers.numbers;
+    let n = tasks.len;
+    let m = handlers.len;
+    written(verdict::verdict(&task_numbers[..n], &handler_numbers[..m]))
+}
+
+// What is written of an answer.
+fn written(answer: Answer) -> Output
+    ensures { λ r. ⌜ r ≡ outputOf (figures answer) ⌝ }
+{
+    let text = printed::of_answer(answer);
+    let refusal = refusal_of(answer);
+    Output { text, refusal }
+}
+
+// The number of an answer's refusal, 0 for none.
+fn refusal_of(answer: Answer) -> u32
+    ensures { λ r. ⌜ r ≡ figures answer .code ⌝ }
+{
+    match answer {
+        Answer::Fits { load: _ } => 0,
+        Answer::Misses {
+            interval: _,
+            handler: _,
+            task: _,
+            load: _,
+        } => 0,
+        Answer::Refused { number } => number,
+    }
+}
