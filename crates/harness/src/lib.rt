@@ -1,0 +1,142 @@
+// For tests and benchmarks in other languages: a run laid out in arrays that the caller lends.
+// figures: task count, handler count, clock, over, late row and 1 (0 for none); then of the answer: code, who ran
+// (0 nobody, 1 a handler, 2 a task), its row, late row and 1.
+use scheduler::Answer;
+use scheduler::Late;
+use scheduler::Ran;
+use scheduler::Run;
+use scheduler::Start;
+
+fn late_number(late: Late) -> u64 {
+    match late {
+        Late::Nobody => 0,
+        Late::Task { row } => {
+            if row < 1000000 {
+                row as u64 + 1
+            } else {
+                1000001
+            }
+        }
+    }
+}
+
+fn late_of(number: u64) -> Late {
+    if number == 0 {
+        Late::Nobody
+    } else {
+        Late::Task {
+            row: (number - 1) as usize,
+        }
+    }
+}
+
+fn who(ran: Ran) -> u64 {
+    match ran {
+        Ran::Handler { row: _ } => 1,
+        Ran::Task { row: _ } => 2,
+        Ran::Idle => 0,
+    }
+}
+
+fn row_of(ran: Ran) -> u64 {
+    match ran {
+        Ran::Handler { row } => row as u64,
+        Ran::Task { row } => row as u64,
+        Ran::Idle => 0,
+    }
+}
+
+fn over_number(over: bool) -> u64 {
+    if over { 1 } else { 0 }
+}
+
+fn start_code(start: Start) -> u64 {
+    match start {
+        Start::Ready => 0,
+        Start::Refused { number } => number as u64,
+    }
+}
+
+// The figures of a run, and of the answer beside it.
+fn run_figures(run: Run, code: u64, ran: Ran, late: Late) -> [u64; 9] {
+    let own = run.late;
+    [
+        run.task_count as u64,
+        run.handler_count as u64,
+        run.clock,
+        over_number(run.over),
+        late_number(own),
+        code,
+        who(ran),
+        row_of(ran),
+        late_number(late),
+    ]
+}
+
+fn step_figures(run: Run, answer: Answer) -> [u64; 9] {
+    match answer {
+        Answer::Ticked { ran, late } => run_figures(run, 0, ran, late),
+        Answer::Refused { number } => run_figures(run, number as u64, Ran::Idle, Late::Nobody),
+    }
+}
+
+// A fresh run, laid into the lent arrays.
+#[no_mangle]
+pub extern "C" fn harness_fresh(
+    tasks: &[u32],
+    handlers: &[u32],
+    t: &mut [u32; 128],
+    h: &mut [u32; 32],
+    next: &mut [u64; 80],
+    owed: &mut [u64; 80],
+    figures: &mut [u64; 9],
+) {
+    let fresh = Run::fresh(tasks, handlers);
+    let run = fresh.run;
+    let answer = fresh.answer;
+    let run_tasks = run.tasks;
+    let run_handlers = run.handlers;
+    let run_next = run.next;
+    let run_owed = run.owed;
+    *t = run_tasks;
+    *h = run_handlers;
+    *next = run_next;
+    *owed = run_owed;
+    *figures = run_figures(run, start_code(answer), Ran::Idle, Late::Nobody);
+}
+
+// One step of the run in the lent arrays, whatever stands there.
+#[no_mangle]
+pub extern "C" fn harness_step(
+    t: &[u32; 128],
+    h: &[u32; 32],
+    next: &mut [u64; 80],
+    owed: &mut [u64; 80],
+    figures: &mut [u64; 9],
+    arrivals: &[u32],
+) {
+    let tasks = *t;
+    let handlers = *h;
+    let old_next = *next;
+    let old_owed = *owed;
+    let late = late_of(figures[4]);
+    let run = Run {
+        tasks,
+        handlers,
+        task_count: figures[0] as usize,
+        handler_count: figures[1] as usize,
+        clock: figures[2],
+        next: old_next,
+        owed: old_owed,
+        over: figures[3] != 0,
+        late,
+    };
+    let stepped = run.step(arrivals);
+    let after = stepped.run;
+    let answer = stepped.answer;
+    let new_next = after.next;
+    let new_owed = after.owed;
+    *next = new_next;
+    *owed = new_owed;
+    *figures = step_figures(after, answer);
+}
