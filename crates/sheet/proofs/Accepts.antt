@@ -13,8 +13,8 @@ use lib.Seq.{take-all}
 use Rattle.demand.specs.Tests.{pick}
 use Rattle.sheet.specs.Ascii.{crlf}
 use Rattle.sheet.specs.Building.{Outcome, none, some, Run, next, runFrom, run, ended, outcome}
-use Rattle.sheet.specs.Layout.{Entry, entry, header, nameOf, comma, entryText, body, text, AllShort, FileSays, OneTable}
-use Rattle.sheet.specs.Numbers.{lastDigits, decimal}
+use Rattle.sheet.specs.Layout.{Entry, entry, header, nameOf, entryText, body, text, AllShort, FileSays, OneTable}
+use Rattle.sheet.specs.Numbers.{lastDigits, decimal, comma}
 use Rattle.sheet.specs.Table.{tableOf, ReadSays, OneReading}
 use Rattle.sheet.specs.declared.layout.Kind.{Kind}
 use Rattle.sheet.specs.declared.layout.Kind.the-variants.{Task, Handler}

@@ -5,8 +5,7 @@ use native.Mathlib.Omega.{arith}
 use Prim.Native.Nat.{ℕ, _≤_}
 use lib.ListN.{length, length-append}
 use Rattle.sheet.specs.Ascii.{crlf}
-use Rattle.sheet.specs.Layout.{comma}
-use Rattle.sheet.specs.Numbers.{decimal}
+use Rattle.sheet.specs.Numbers.{decimal, comma}
 use Rattle.sheet.specs.Printed.{heading, wordText, lines, printed}
 use Rattle.sheet.specs.Text.{textOf, blankText, putOf, putsOf}
 use Rattle.sheet.specs.declared.text.Text.{Text}

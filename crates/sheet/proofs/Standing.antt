@@ -13,8 +13,8 @@ use lib.Seq.{take-suc, take-all}
 use Rattle.demand.specs.Tests.{pick}
 use Rattle.sheet.specs.Ascii.{crlf}
 use Rattle.sheet.specs.Building.{Run, added, next, runFrom, run}
-use Rattle.sheet.specs.Layout.{Entry, entry, header, nameOf, comma, entryText, body, text, Short, AllShort}
-use Rattle.sheet.specs.Numbers.{decimal}
+use Rattle.sheet.specs.Layout.{Entry, entry, header, nameOf, entryText, body, text, Short, AllShort}
+use Rattle.sheet.specs.Numbers.{decimal, comma}
 use Rattle.sheet.specs.Steps.{isDigit, continues, stepOf}
 use Rattle.sheet.specs.declared.layout.Kind.{Kind}
 use Rattle.sheet.specs.declared.layout.Kind.the-variants.{Task, Handler}

@@ -13,7 +13,7 @@ use Prim.Native.Nat.{ℕ, _+_, _≤_}
 use lib.Dec.{eqb, ltb}
 use lib.ListN.{length, set}
 use Rattle.demand.specs.Tests.{pick}
-use Rattle.sheet.specs.Layout.{Entry, entry}
+use Rattle.sheet.specs.Layout.{Entry, entry, fileMost}
 use Rattle.sheet.specs.Steps.{stepOf}
 use Rattle.sheet.specs.Table.{brokenTable}
 use Rattle.sheet.specs.declared.layout.Kind.{Kind}
@@ -101,4 +101,4 @@ ended (PeriodFirst kind c) es = none
 ended (RowCr kind c p) es = none
 
 abbrev pub outcome : List ℕ → Outcome
-outcome bs = pick (ltb 4096 (length bs)) none (ended (run bs .st) (run bs .rows))
+outcome bs = pick (ltb fileMost (length bs)) none (ended (run bs .st) (run bs .rows))

@@ -11,10 +11,10 @@ use Rattle.sheet.specs.Whole.{SheetSays}
 use Rattle.sheet.specs.declared.Output.{Output}
 
 abbrev pub caseNine : List ℕ
-caseNine = ascii "kind,cost,period" ++ (crlf ++ (ascii "task,2,5" ++ (crlf ++ (ascii "task,4,8" ++ (crlf ++ (ascii "handler,1,4" ++ crlf))))))
+caseNine = ascii "kind,cost,period" ++ crlf ++ ascii "task,2,5" ++ crlf ++ ascii "task,4,8" ++ crlf ++ ascii "handler,1,4" ++ crlf
 
 abbrev pub caseNineSheet : List ℕ
-caseNineSheet = ascii "verdict,code,interval,handler,task,load" ++ (crlf ++ (ascii "misses,0,10,3,8,1150000" ++ crlf))
+caseNineSheet = ascii "verdict,code,interval,handler,task,load" ++ crlf ++ ascii "misses,0,10,3,8,1150000" ++ crlf
 
 abbrev pub CaseNinePrints : Type 0
 CaseNinePrints = (out : Output) → SheetSays caseNine out → out ≡ record { text = textOf caseNineSheet; refusal = 0 }

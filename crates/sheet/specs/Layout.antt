@@ -3,6 +3,7 @@
 --   nameOf kind     == `task` or `handler`
 --   entryText e     == the row e: the kind's name and two numbers, with commas between
 --   text es         == the header, then each row of es on a line of its own: CRLF between lines
+--   fileMost        == the most bytes of a file
 --   Short e         both numbers have at most 7 digits
 --   FileSays bs es  the file bs says the rows es: at most 4,096 bytes, their text, with or without the last CRLF
 --   SaysNothing bs  the file bs breaks the layout: it says no rows
@@ -13,12 +14,15 @@ use mathlib.Core.Path.{_≡_}
 use Prim.Native.Nat.{ℕ, _≤_, _<_}
 use lib.ListN.{length}
 use Rattle.sheet.specs.Ascii.{ascii, crlf}
-use Rattle.sheet.specs.Numbers.{decimal}
+use Rattle.sheet.specs.Numbers.{field}
 use Rattle.sheet.specs.declared.layout.Kind.{Kind}
 use Rattle.sheet.specs.declared.layout.Kind.the-variants.{Task, Handler}
 
 pub data Entry : Type 0 where
   entry : Kind → ℕ → ℕ → Entry
+
+abbrev pub fileMost : ℕ
+fileMost = 4096
 
 abbrev pub header : List ℕ
 header = ascii "kind,cost,period"
@@ -27,15 +31,12 @@ abbrev pub nameOf : Kind → List ℕ
 nameOf Task = ascii "task"
 nameOf Handler = ascii "handler"
 
-abbrev pub comma : ℕ
-comma = 44
-
 abbrev pub entryText : Entry → List ℕ
-entryText (entry kind c p) = nameOf kind ++ (comma ∷ (decimal c ++ (comma ∷ decimal p)))
+entryText (entry kind c p) = nameOf kind ++ (field c ++ field p)
 
 abbrev pub body : List Entry → List ℕ
 body [] = []
-body (e ∷ es) = crlf ++ (entryText e ++ body es)
+body (e ∷ es) = crlf ++ entryText e ++ body es
 
 abbrev pub text : List Entry → List ℕ
 text es = header ++ body es
@@ -48,7 +49,7 @@ AllShort [] = Unit
 AllShort (e ∷ es) = Short e × AllShort es
 
 pub record FileSays (bs : List ℕ) (es : List Entry) : Type 0 where
-  pub small : length bs ≤ 4096
+  pub small : length bs ≤ fileMost
   pub short : AllShort es
   pub written : (bs ≡ text es) ⊎ (bs ≡ text es ++ crlf)
 

@@ -1,6 +1,7 @@
 -- Numbers in decimal.
 --   lastDigits k n   == the last digits of n, k at most, the most significant first, with no zero in front
 --   decimal n        == n in decimal; 20 digits are enough for every number of 64 bits
+--   field n          == a comma and n in decimal
 use mathlib.Core.List.{List, [], _∷_, _++_}
 use Prim.Native.Nat.{ℕ, zero, suc, _+_, _/_, _%_}
 use lib.Dec.{ltb}
@@ -12,3 +13,9 @@ lastDigits (suc k) n = pick (ltb n 10) ((48 + n) ∷ []) (lastDigits k (n / 10) 
 
 unfoldable pub decimal : ℕ → List ℕ
 decimal n = lastDigits 20 n
+
+abbrev pub comma : ℕ
+comma = 44
+
+abbrev pub field : ℕ → List ℕ
+field n = comma ∷ decimal n

@@ -2,11 +2,10 @@
 --   wordText w     == `fits`, `misses` or `refused`
 --   lines word ..  == two CRLF lines, of any word and figures
 --   printed g      == the two lines of the figures g
-use mathlib.Core.List.{List, _∷_, _++_}
+use mathlib.Core.List.{List, _++_}
 use Prim.Native.Nat.{ℕ}
 use Rattle.sheet.specs.Ascii.{ascii, crlf}
-use Rattle.sheet.specs.Layout.{comma}
-use Rattle.sheet.specs.Numbers.{decimal}
+use Rattle.sheet.specs.Numbers.{field}
 use Rattle.verdict.specs.Promise.{Figures, Word}
 use Rattle.verdict.specs.Promise.Word.{fits, misses, refused}
 
@@ -20,9 +19,7 @@ wordText refused = ascii "refused"
 
 unfoldable pub lines : List ℕ → ℕ → ℕ → ℕ → ℕ → ℕ → List ℕ
 lines word code interval handler task load =
-    heading ++ (crlf
-    ++ (word ++ (comma ∷ (decimal code ++ (comma ∷ (decimal interval ++ (comma ∷ (decimal handler ++ (comma ∷ (decimal task ++ (comma ∷ (decimal load
-    ++ crlf))))))))))))
+    heading ++ crlf ++ word ++ field code ++ field interval ++ field handler ++ field task ++ field load ++ crlf
 
 unfoldable pub printed : Figures → List ℕ
 printed g = lines (wordText (g .word)) (g .code) (g .interval) (g .handler) (g .task) (g .load)

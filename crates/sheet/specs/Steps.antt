@@ -7,7 +7,8 @@ use Prim.Native.Nat.{ℕ, _+_, _-_, _*_}
 use lib.Dec.{eqb, ltb, leb}
 use lib.ListN.{length, getD}
 use Rattle.demand.specs.Tests.{pick}
-use Rattle.sheet.specs.Layout.{header, nameOf, comma}
+use Rattle.sheet.specs.Layout.{header, nameOf}
+use Rattle.sheet.specs.Numbers.{comma}
 use Rattle.sheet.specs.declared.layout.Kind.the-variants.{Task, Handler}
 use Rattle.sheet.specs.declared.layout.State.{State}
 use Rattle.sheet.specs.declared.layout.State.the-variants.{Broken, Head, HeadCr, Start, Name, CostFirst, Cost, PeriodFirst, Period, RowCr}

@@ -7,12 +7,15 @@ use crate::layout;
 use crate::layout::Kind;
 use crate::layout::State;
 
+// The most bytes of a file.
+const FILE_MOST: usize = 4096;
+
 // 4,096 bytes hold the header's 16 and at most 408 rows of 10 or more, as "task,1,1" and its CRLF: 816 numbers.
 const MOST: usize = 816;
 
 // A flat list: cost, period, cost, period, .., and zeros behind.
 pub struct Flat {
-    pub numbers: [u32; 816],
+    pub numbers: [u32; MOST],
     pub len: usize,
 }
 
@@ -108,7 +111,7 @@ fn close(t: Table, st: State) -> Table
 pub fn read(bytes: &[u8]) -> Table
     ensures { λ r. ⌜ ReadSays (now (bytes .entry)) r ⌝ }
 {
-    if 4096 < bytes.len() {
+    if FILE_MOST < bytes.len() {
         return bare(false);
     }
     let mut t = bare(true);

@@ -4,9 +4,12 @@ ghost use Prim.Native.Nat.{_+_, _<_};
 ghost use Rattle.sheet.specs.Numbers.{decimal};
 ghost use Rattle.sheet.specs.Text.{blankText, putOf, putsOf};
 
-// A text, and zeros behind. The longest one written here has 155 bytes.
+// The longest text written here, a sheet with five figures of 20 digits, has 155 bytes.
+const SPACE: usize = 160;
+
+// A text, and zeros behind.
 pub struct Text {
-    pub bytes: [u8; 160],
+    pub bytes: [u8; SPACE],
     pub len: usize,
 }
 
@@ -14,7 +17,7 @@ pub fn blank() -> Text
     ensures { λ r. ⌜ r ≡ blankText ⌝ }
 {
     Text {
-        bytes: [0; 160],
+        bytes: [0; SPACE],
         len: 0,
     }
 }
@@ -24,7 +27,7 @@ pub fn put(mut text: Text, b: u8) -> Text
     ensures { λ r. ⌜ r ≡ putOf text b ⌝ }
 {
     let n = text.len;
-    if n < 160 {
+    if n < SPACE {
         text.bytes[n] = b;
         text.len = n + 1;
         text
