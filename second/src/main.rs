@@ -1,9 +1,13 @@
 //! Compares the proved library with the slow second program on many tables.
-//!     second SEED COUNT      COUNT tables of each kind; ends with status 1 at the first difference, and prints the table
+//!     second SEED COUNT FIT    COUNT tables of each kind, and as many files through the program FIT;
+//!                              ends with status 1 at the first difference, and prints what shows it
 
+mod files;
 mod model;
 mod proved;
 mod random;
+mod scheduler;
+mod steps;
 mod tables;
 
 use random::Random;
@@ -76,14 +80,47 @@ fn judge(table: &Table, counts: &mut Counts) {
     }
 }
 
+/// Whole runs, and steps of runs made elsewhere.
+fn run_all(random: &mut Random, table: &Table, steps: &mut steps::Counts) {
+    if let Err(what) = steps::whole(random, table, 60, steps) {
+        differ(&what, table, String::new(), String::new());
+    }
+    for _ in 0..3 {
+        if let Err(what) = steps::made_elsewhere(random, steps) {
+            differ(&what, table, String::new(), String::new());
+        }
+    }
+}
+
+/// Files through the program, damaged ones among them. How many were compared, and how many of them break the layout.
+fn read_all(random: &mut Random, count: u64, program: &str) -> (u64, u64) {
+    let (mut compared, mut broken) = (0, 0);
+    for _ in 0..count {
+        let file = files::file(random);
+        let Some(want) = files::sheet(&file, PATIENCE) else { continue };
+        let got = files::run(program, &file);
+        if got != want {
+            println!("DIFFERENT sheet: proved {got:?}, second program {want:?}");
+            println!("file {:?}", String::from_utf8_lossy(&file));
+            exit(1);
+        }
+        compared += 1;
+        broken += want.contains("refused,12,") as u64;
+    }
+    (compared, broken)
+}
+
 fn main() {
-    let numbers: Vec<u64> = std::env::args().skip(1).filter_map(|a| a.parse().ok()).collect();
-    let [seed, count] = numbers[..] else {
-        eprintln!("usage: second SEED COUNT");
+    let words: Vec<String> = std::env::args().skip(1).collect();
+    let numbers: Vec<u64> = words.iter().filter_map(|a| a.parse().ok()).collect();
+    let ([seed, count], Some(program)) = (&numbers[..], words.get(2)) else {
+        eprintln!("usage: second SEED COUNT FIT");
         exit(2);
     };
+    let (seed, count) = (*seed, *count);
     let mut random = Random::new(seed);
     let mut counts = Counts::default();
+    let mut steps = steps::Counts::default();
     for _ in 0..count {
         for kind in [tables::small, tables::hostile, tables::wide] {
             let table = kind(&mut random);
@@ -94,10 +131,17 @@ fn main() {
             }
             let l = random.one_of(&[0, 1, 999, 9_999, 1_000_000_001, u64::MAX]);
             ask(&table, l, &mut counts);
+            run_all(&mut random, &table, &mut steps);
         }
     }
     println!(
         "seed {seed}: {} tables, {} verdicts compared ({} fits, {} misses, {} refused), {} questions compared, 0 differences",
         counts.tables, counts.verdicts, counts.fits, counts.misses, counts.refused, counts.questions
     );
+    println!(
+        "seed {seed}: {} runs, {} steps compared ({} late, refused 6 to 11: {:?}), 0 differences",
+        steps.runs, steps.ticks, steps.late, &steps.refused[6..]
+    );
+    let (compared, broken) = read_all(&mut random, count, program);
+    println!("seed {seed}: {compared} files compared ({broken} broken), 0 differences");
 }

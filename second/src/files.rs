@@ -1,0 +1,101 @@
+//! Files through the program `fit` beside a plain reading of the layout.
+
+use crate::model;
+use crate::random::Random;
+use crate::tables::{self, Table};
+use std::io::Write;
+use std::process::{Command, Stdio};
+
+/// The rows of a file, or nothing where it breaks the layout.
+pub fn read(bytes: &[u8]) -> Option<Table> {
+    if bytes.len() > 4096 {
+        return None;
+    }
+    let text = std::str::from_utf8(bytes).ok()?;
+    let text = text.strip_suffix("\r\n").unwrap_or(text);
+    let mut lines = text.split("\r\n");
+    if lines.next()? != "kind,cost,period" {
+        return None;
+    }
+    let mut table = Table { tasks: vec![], handlers: vec![] };
+    for line in lines {
+        let fields: Vec<&str> = line.split(',').collect();
+        let [kind, cost, period] = fields[..] else { return None };
+        let list = match kind {
+            "task" => &mut table.tasks,
+            "handler" => &mut table.handlers,
+            _ => return None,
+        };
+        for field in [cost, period] {
+            let digits = !field.is_empty() && field.len() <= 7 && field.bytes().all(|b| b.is_ascii_digit());
+            if !digits || (field.len() > 1 && field.starts_with('0')) {
+                return None;
+            }
+            list.push(field.parse().ok()?);
+        }
+    }
+    Some(table)
+}
+
+/// The two lines that the program must print, where a blind search can tell.
+pub fn sheet(bytes: &[u8], patience: u128) -> Option<String> {
+    let g = match read(bytes) {
+        None => [2, 12, 0, 0, 0, 0],
+        Some(table) => model::verdict(&table.tasks, &table.handlers, patience)?,
+    };
+    let word = ["fits", "misses", "refused"][g[0] as usize];
+    Some(format!("verdict,code,interval,handler,task,load\r\n{word},{},{},{},{},{}\r\n", g[1], g[2], g[3], g[4], g[5]))
+}
+
+/// A table as text, and then perhaps damaged.
+pub fn file(random: &mut Random) -> Vec<u8> {
+    let table = if random.chance(4) { tables::hostile(random) } else { tables::small(random) };
+    let mut rows: Vec<String> = Vec::new();
+    let mut push = |kind: &str, list: &[u32]| {
+        for r in list.chunks_exact(2) {
+            rows.push(format!("{kind},{},{}", r[0], r[1]));
+        }
+    };
+    push("task", &table.tasks);
+    push("handler", &table.handlers);
+    for i in (1..rows.len()).rev() {
+        rows.swap(i, random.below(i as u64 + 1) as usize);
+    }
+    let mut text = String::from("kind,cost,period");
+    for row in rows {
+        text += "\r\n";
+        text += &row;
+    }
+    if random.chance(2) {
+        text += "\r\n";
+    }
+    let mut bytes = text.into_bytes();
+    if random.chance(2) {
+        damage(random, &mut bytes);
+    }
+    bytes
+}
+
+fn damage(random: &mut Random, bytes: &mut Vec<u8>) {
+    for _ in 0..random.from_to(1, 2) {
+        let at = random.below(bytes.len() as u64 + 1) as usize;
+        let byte = random.one_of(b"\r\n,0159 \"tThk\0\xEF");
+        match random.below(4) {
+            0 => bytes.insert(at, byte),
+            1 if at < bytes.len() => bytes[at] = byte,
+            2 if at < bytes.len() => {
+                bytes.remove(at);
+            }
+            _ => bytes.truncate(at),
+        }
+    }
+}
+
+/// What the program prints for a file.
+pub fn run(program: &str, bytes: &[u8]) -> String {
+    let mut child = Command::new(program).stdin(Stdio::piped()).stdout(Stdio::piped()).stderr(Stdio::null()).spawn().expect("the program fit");
+    // A program that has read 4,097 bytes may end before all is written.
+    let _ = child.stdin.take().expect("its standard input").write_all(bytes);
+    let output = child.wait_with_output().expect("its output");
+    String::from_utf8_lossy(&output.stdout).into_owned()
+}
