@@ -1,6 +1,7 @@
 // For tests and benchmarks in other languages: a run laid out in arrays that the caller lends.
 // figures: task count, handler count, clock, over, late row and 1 (0 for none); then of the answer: code, who ran
 // (0 nobody, 1 a handler, 2 a task), its row, late row and 1.
+ghost use Prim.Native.Nat.{_≤_};
 use scheduler::Answer;
 use scheduler::Late;
 use scheduler::Ran;
@@ -139,4 +140,38 @@ pub extern "C" fn harness_step(
     *next = new_next;
     *owed = new_owed;
     *figures = step_figures(after, answer);
+}
+
+fn busy(answer: Answer) -> u64
+    ensures { λ r. ⌜ r ≤ 1 ⌝ }
+{
+    match answer {
+        Answer::Ticked { ran, late: _ } => { if who(ran) == 0 { 0 } else { 1 } }
+        Answer::Refused { number: _ } => 0,
+    }
+}
+
+// A fresh run's first step, then `ticks` more with the same list each: how many of them were not idle.
+#[no_mangle]
+pub extern "C" fn harness_ticks(
+    tasks: &[u32],
+    handlers: &[u32],
+    first: &[u32],
+    rest: &[u32],
+    ticks: u32,
+) -> u64 {
+    let fresh = Run::fresh(tasks, handlers);
+    let start = fresh.run;
+    let begun = start.step(first);
+    let mut run = begun.run;
+    let mut count: u64 = 0;
+    let mut i: u32 = 0;
+    while i < ticks {
+        let stepped = run.step(rest);
+        let answer = stepped.answer;
+        run = stepped.run;
+        count += busy(answer);
+        i += 1;
+    }
+    count
 }
