@@ -6,7 +6,7 @@ use mathlib.Core.Logic.{_⊎_, inl, inr}
 use mathlib.Core.Path.{_≡_, refl, sym, ap, _∙_}
 use native.Mathlib.Nat.{mul-le-mul}
 use native.Mathlib.Omega.{arith}
-use borrow.Author.Tests.{ltb-true, ltb-false, le-ltb, lt-ltb, eqb-false}
+use borrow.Author.Tests.{ltb-false, leb-false, le-ltb, lt-ltb}
 use Prim.Native.Nat.{ℕ, _+_, _-_, _*_, _≤_, _<_}
 use lib.Dec.{ltb, eqb}
 use lib.ListN.{getD, drop}
@@ -156,3 +156,9 @@ module _ (r : Run) (c : Clauses r) where
           let same : r .«task_count» + i ≡ k = omega arith in
           let most : getD (r .owed) k 0 ≤ r .clock * rowIn r k .cost = rw same at (clauses-handler i (omega arith)) in
           omega (arith, most, mul-le-mul clauses-clock (clauses-fair k l .cost .most))
+
+  -- Where it is not over, a task owed work has its deadline ahead.
+  pub clauses-due : r .over ≡ false → (k : ℕ) → k < r .«task_count» → 0 < getD (r .owed) k 0 → r .clock < dueIn r k
+  clauses-due going k l work =
+      let none = any-at (missed (r .over) (r .clock) (dueIn r) (r .owed)) (r .«task_count») k (c .deadlines) l in
+      leb-false (dueIn r k) (r .clock) (rw (lt-ltb 0 (getD (r .owed) k 0) work, going) at none)

@@ -17,4 +17,8 @@ pub mod Clauses
 pub mod Answers
 pub mod Tables
 pub mod Ticks
+pub mod Keeps
+pub mod KeepsBounds
+pub mod FreshBounds
+pub mod InBounds
 pub mod Examples

@@ -45,7 +45,7 @@ handlers-fit t h e = let w = whole t h e in omega (arith, w .handlers, w .in-ran
 
 -- ---- the fresh run
 
-drop-replicate : (k n : ℕ) → drop {A = ℕ} k (replicate n 0) ≡ replicate (n - k) 0
+pub drop-replicate : (k n : ℕ) → drop {A = ℕ} k (replicate n 0) ≡ replicate (n - k) 0
 drop-replicate zero n = let e : n - 0 ≡ n = omega arith in rw e
 drop-replicate (suc k) zero = let e : 0 - suc k ≡ 0 = omega arith in rw e
 drop-replicate (suc k) (suc n) = let e : suc n - suc k ≡ n - k = omega arith in rw e (drop-replicate k n)
