@@ -21,4 +21,6 @@ pub mod Keeps
 pub mod KeepsBounds
 pub mod FreshBounds
 pub mod InBounds
+pub mod Sums
+pub mod Balanced
 pub mod Examples
