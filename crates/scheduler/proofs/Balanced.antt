@@ -16,7 +16,6 @@ use Rattle.scheduler.specs.Tick.{GoesTo, paid, keyWith, goesTo, tickedBy
 use Rattle.scheduler.specs.declared.Ran.{Ran}
 use Rattle.scheduler.specs.declared.Ran.the-variants.{Handler, Task, Idle}
 use Rattle.scheduler.specs.declared.Run.{Run}
-use Rattle.scheduler.specs.declared.Start.the-variants.{Ready}
 use Rattle.scheduler.proofs.Answers.{Passed}
 use Rattle.scheduler.proofs.FreshBounds.{zeros-at, ready-run}
 use Rattle.scheduler.proofs.Goes.{goes-to}

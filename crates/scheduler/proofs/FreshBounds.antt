@@ -1,5 +1,5 @@
 -- A fresh run is in bounds.
-use mathlib.Core.Bool.{Bool, true, false, _||_}
+use mathlib.Core.Bool.{Bool, true, false}
 use mathlib.Core.List.{List, [], _∷_, _++_}
 use mathlib.Core.Logic.{_⊎_, inl, inr}
 use mathlib.Core.Path.{_≡_, refl, sym, ap, _∙_}
@@ -10,17 +10,14 @@ use lib.Dec.{ltb, eqb}
 use lib.ListN.{length, getD, drop, replicate, length-append, length-replicate, getD-replicate, List·getD-append, List·getD-eq-default}
 use lib.Seq.{drop-at}
 use Rattle.demand.proofs.Divide.{le-or-lt}
-use Rattle.demand.specs.Limits.{figureMost, tasksMost, handlersMost, ticksMost}
-use Rattle.demand.specs.Refusals.{outside, rowOutside, tableRefusal, Fair, FairRow, InRange}
+use Rattle.demand.specs.Limits.{figureMost, tasksMost, handlersMost}
+use Rattle.demand.specs.Refusals.{outside, rowOutside, tableRefusal, Fair, FairRow}
 use Rattle.demand.specs.Rows.{Row, rowsOf, tasksOf, handlersOf, rowAt, noRow, Each}
-use Rattle.scheduler.specs.Bounds.{miscounts, outsideAt, placesUsed, tooFar, tooMuch, tooMuchBehind, missed, InBounds}
-use Rattle.scheduler.specs.Reached.{Sound, FreshInBounds}
-use Rattle.scheduler.specs.Runs.{rowIn, rowCount, dueIn, Shaped}
-use Rattle.scheduler.specs.Scans.{any, used}
+use Rattle.scheduler.specs.Bounds.{miscounts, outsideAt, placesUsed, InBounds}
+use Rattle.scheduler.specs.Runs.{rowIn, rowCount, Shaped}
+use Rattle.scheduler.specs.Scans.{used}
 use Rattle.scheduler.specs.Start.{padded, zeros, freshRun, freshOf}
 use Rattle.scheduler.specs.declared.Fresh.{Fresh}
-use Rattle.scheduler.specs.declared.Run.{Run}
-use Rattle.scheduler.specs.declared.Start.{Start}
 use Rattle.scheduler.specs.declared.Start.the-variants.{Ready, Refused}
 use Rattle.scheduler.proofs.Clauses.{in-bounds}
 use Rattle.scheduler.proofs.Scan.{any-false}
@@ -88,10 +85,6 @@ fair-inside r f = rw (not-outside (r .cost) (f .cost), not-outside (r .period) (
 module _ (t h : List ℕ) (e : tableRefusal t h ≡ 0) where
   table : Whole t h
   table = whole t h e
-
-
-
-
 
   counts : miscounts (length (tasksOf t)) (length (handlersOf h)) ≡ false
   counts =

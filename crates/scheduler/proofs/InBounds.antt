@@ -5,15 +5,12 @@ use mathlib.Core.Path.{_≡_, refl, sym, subst}
 use native.Mathlib.Nat.{eq-zero-or-pos}
 use native.Mathlib.Omega.{arith}
 use Prim.Native.Nat.{ℕ, _<_}
-use Rattle.demand.specs.Refusals.{tableRefusal}
 use Rattle.scheduler.specs.Machine.{Live}
 use Rattle.scheduler.specs.Reached.{offeredBy, Sound, FreshInBounds, StepInBounds, AlwaysInBounds}
-use Rattle.scheduler.specs.Runs.{rowCount}
-use Rattle.scheduler.specs.Start.{freshOf, freshRun}
+use Rattle.scheduler.specs.Start.{freshOf}
 use Rattle.scheduler.specs.Steps.{stepRefusal, refused, stepBy}
-use Rattle.scheduler.specs.Tick.{nextArrived, owedArrived, keyWith, goesTo, tickedBy}
+use Rattle.scheduler.specs.Tick.{keyWith, goesTo, tickedBy}
 use Rattle.scheduler.specs.declared.Run.{Run}
-use Rattle.scheduler.specs.declared.Start.the-variants.{Ready}
 use Rattle.scheduler.specs.declared.Stepped.{Stepped}
 use Rattle.scheduler.proofs.Answers.{Passed, passed, step-ticks, step-refused}
 use Rattle.scheduler.proofs.FreshBounds.{fresh-bounds, fresh-shape, ready, ready-run}

@@ -1,17 +1,16 @@
 -- What a tick does to one row, to the places past the last, and to the late row: the pieces of `StepInBounds`.
 --   Came ..   what an arrival makes of a row: nothing came, or a legal arrival
-use mathlib.Core.Bool.{Bool, true, false, not, _&&_, _||_, false≢true}
+use mathlib.Core.Bool.{Bool, true, false, not, _&&_, false≢true}
 use mathlib.Core.List.{List}
-use mathlib.Core.Path.{_≡_, refl, sym, ap, subst, _∙_}
+use mathlib.Core.Path.{_≡_, refl, sym, ap, _∙_}
 use native.Mathlib.Omega.{arith}
 use borrow.Author.Tests.{ltb-true, ltb-false, eqb-true, eqb-false, le-ltb, lt-ltb, lt-leb, eq-eqb}
-use Prim.Native.Nat.{ℕ, zero, suc, _+_, _-_, _*_, _≤_, _<_}
-use lib.Dec.{ltb, leb, eqb}
-use lib.ListN.{length, getD, set, drop, length-set}
+use Prim.Native.Nat.{ℕ, _+_, _-_, _≤_, _<_}
+use lib.Dec.{ltb, eqb}
+use lib.ListN.{length, getD, drop, length-set}
 use lib.Seq.{drop-set-lt, getD-set-same, getD-set-other, set-out}
 use Rattle.demand.specs.Rows.{Row}
 use Rattle.scheduler.specs.Bounds.{passed, names}
-use Rattle.scheduler.specs.Scans.{any}
 use Rattle.scheduler.specs.Tick.{nextAfter, GoesTo, less, paid, isLate, lateRow, isTask}
 use Rattle.scheduler.specs.declared.Late.{Late}
 use Rattle.scheduler.specs.declared.Late.the-variants as late

@@ -5,17 +5,14 @@ use mathlib.Core.Path.{_≡_, refl, sym, ap, subst, _∙_}
 use native.Mathlib.Nat.{add-mul, one-mul}
 use native.Mathlib.Omega.{arith}
 use borrow.Author.Tests.{ltb-true, ltb-false, le-ltb}
-use Prim.Native.Nat.{ℕ, suc, _+_, _*_, _≤_, _<_}
+use Prim.Native.Nat.{ℕ, _+_, _*_, _≤_, _<_}
 use lib.Dec.{ltb}
 use lib.ListN.{length, getD, drop}
 use Rattle.demand.specs.Limits.{ticksMost}
-use Rattle.demand.specs.Rows.{Row}
 use Rattle.scheduler.specs.Bounds.{placesUsed, tooFar, tooMuch, tooMuchBehind, missed, InBounds}
-use Rattle.scheduler.specs.Places.{dueBy}
 use Rattle.scheduler.specs.Runs.{rowIn, rowCount, dueWith, dueIn, Shaped}
-use Rattle.scheduler.specs.Scans.{any, used, filled}
 use Rattle.scheduler.specs.Steps.{early, heavy}
-use Rattle.scheduler.specs.Tick.{nextAfter, nextArrived, owedArrived, GoesTo, paid, lateRow, isTask, served}
+use Rattle.scheduler.specs.Tick.{nextAfter, nextArrived, owedArrived, GoesTo, served}
 use Rattle.scheduler.specs.declared.Ran.{Ran}
 use Rattle.scheduler.specs.declared.Run.{Run}
 use Rattle.scheduler.proofs.Answers.{Passed}

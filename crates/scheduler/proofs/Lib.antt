@@ -23,4 +23,5 @@ pub mod FreshBounds
 pub mod InBounds
 pub mod Sums
 pub mod Balanced
+pub mod Ruled
 pub mod Examples
