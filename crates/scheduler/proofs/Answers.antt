@@ -1,16 +1,15 @@
 -- The refusals of a step one after the other, and what a step that is not refused has passed.
 --   Passed r ws   no refusal of 6 to 11 applies
-use mathlib.Core.Bool.{Bool, true, false, not, false≢true}
+use mathlib.Core.Bool.{true, false, not}
 use mathlib.Core.List.{List}
-use mathlib.Core.Path.{_≡_, refl, sym, ap, _∙_}
+use mathlib.Core.Path.{_≡_}
 use native.Mathlib.Omega.{arith}
 use borrow.Author.Tests.{eqb-true, eqb-false, eq-eqb, ne-eqb, not-false}
-use Prim.Native.Nat.{ℕ, suc, _+_, _≤_, _<_}
+use Prim.Native.Nat.{ℕ, _≤_, _<_}
 use lib.Dec.{eqb}
 use lib.ListN.{length}
 use Rattle.demand.proofs.Refused.{not-refused}
 use Rattle.demand.specs.Limits.{ticksMost}
-use Rattle.demand.specs.Tests.{refuse}
 use Rattle.scheduler.specs.Bounds.{outOfBounds, InBounds}
 use Rattle.scheduler.specs.Machine.{Live}
 use Rattle.scheduler.specs.Runs.{rowIn, rowCount}

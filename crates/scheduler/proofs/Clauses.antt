@@ -1,23 +1,21 @@
 -- Refusal 6 clause by clause: what the code tests one after the other, and what a run in bounds is.
 --   Clauses r   no clause of refusal 6 applies
-use mathlib.Core.Bool.{Bool, true, false, not, _&&_, _||_, false≢true}
+use mathlib.Core.Bool.{Bool, true, false, not, _&&_, _||_}
 use mathlib.Core.List.{List}
 use mathlib.Core.Logic.{_⊎_, inl, inr}
-use mathlib.Core.Path.{_≡_, refl, sym, ap, _∙_}
+use mathlib.Core.Path.{_≡_, refl}
 use native.Mathlib.Nat.{mul-le-mul}
 use native.Mathlib.Omega.{arith}
-use borrow.Author.Tests.{ltb-true, ltb-false, le-ltb, lt-ltb, eqb-false}
+use borrow.Author.Tests.{ltb-false, leb-false, le-ltb, lt-ltb}
 use Prim.Native.Nat.{ℕ, _+_, _-_, _*_, _≤_, _<_}
 use lib.Dec.{ltb, eqb}
-use lib.ListN.{getD, drop}
+use lib.ListN.{getD}
 use Rattle.demand.proofs.Divide.{le-or-lt}
 use Rattle.demand.specs.Limits.{tasksMost, handlersMost, ticksMost}
 use Rattle.demand.specs.Refusals.{FairRow}
-use Rattle.demand.specs.Rows.{Row}
 use Rattle.scheduler.specs.Bounds.{miscounts, outsideAt, tableRefused, placesUsed, clockPast, tooFar, nextTooFar, tooMuch, taskTooMuch, tooMuchBehind, handlerTooMuch, missed, deadlineMissed, names, lateWrong, lateNamed, outOfBounds, InBounds}
-use Rattle.scheduler.specs.Places.{dueBy}
 use Rattle.scheduler.specs.Runs.{rowIn, rowCount, dueWith, dueIn, Fitting}
-use Rattle.scheduler.specs.Scans.{at, any, used}
+use Rattle.scheduler.specs.Scans.{at, any}
 use Rattle.scheduler.specs.Tick.{lateRow, isTask}
 use Rattle.scheduler.specs.declared.Run.{Run}
 use Rattle.scheduler.proofs.RowPlaces.{fair-at}
@@ -156,3 +154,9 @@ module _ (r : Run) (c : Clauses r) where
           let same : r .«task_count» + i ≡ k = omega arith in
           let most : getD (r .owed) k 0 ≤ r .clock * rowIn r k .cost = rw same at (clauses-handler i (omega arith)) in
           omega (arith, most, mul-le-mul clauses-clock (clauses-fair k l .cost .most))
+
+  -- Where it is not over, a task owed work has its deadline ahead.
+  pub clauses-due : r .over ≡ false → (k : ℕ) → k < r .«task_count» → 0 < getD (r .owed) k 0 → r .clock < dueIn r k
+  clauses-due going k l work =
+      let none = any-at (missed (r .over) (r .clock) (dueIn r) (r .owed)) (r .«task_count») k (c .deadlines) l in
+      leb-false (dueIn r k) (r .clock) (rw (lt-ltb 0 (getD (r .owed) k 0) work, going) at none)

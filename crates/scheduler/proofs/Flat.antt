@@ -4,7 +4,7 @@ use mathlib.Core.Path.{_≡_, refl}
 use native.Mathlib.Omega.{arith}
 use lib.ListN.{length, getD, set}
 use Prim.Native.Nat.{ℕ, zero, suc, _≤_, _<_}
-use Rattle.demand.specs.Rows.{Row, rowAt}
+use Rattle.demand.specs.Rows.{Row}
 use Rattle.scheduler.specs.Machine.{Live, dueOf, beforeBy, left, serve, chosen, pick, edf}
 use Rattle.scheduler.specs.Places.{liveOf, liveAt, Fits, dueAt}
 use Rattle.scheduler.proofs.Choice.{Idle, From, none-before}

@@ -1,17 +1,16 @@
 -- Who gets the tick: the one that the rule names, and no other.
-use mathlib.Core.Bool.{Bool, true, false, false≢true}
+use mathlib.Core.Bool.{Bool, true, false}
 use mathlib.Core.List.{List}
 use mathlib.Core.Logic.{_⊎_, inl, inr}
-use mathlib.Core.Path.{_≡_, refl, sym, ap, subst, _∙_}
+use mathlib.Core.Path.{_≡_, refl, sym, subst}
 use native.Mathlib.Omega.{arith}
 use borrow.Author.Tests.{ltb-true, ltb-false}
 use Prim.Native.Nat.{ℕ, _+_, _≤_, _<_}
 use lib.ListN.{getD}
 use Rattle.demand.proofs.Divide.{le-or-lt}
 use Rattle.demand.specs.Limits.{tasksMost, handlersMost}
-use Rattle.demand.specs.Tests.{pick}
 use Rattle.scheduler.specs.Scans.{any}
-use Rattle.scheduler.specs.Tick.{ToHandler, ToTask, ToNobody, GoesTo, earliest, toTask, owedAt, goesTo, Payable}
+use Rattle.scheduler.specs.Tick.{ToHandler, ToTask, GoesTo, earliest, toTask, owedAt, goesTo, Payable}
 use Rattle.scheduler.specs.declared.Ran.{Ran}
 use Rattle.scheduler.specs.declared.Ran.the-variants.{Handler, Task, Idle}
 use Rattle.scheduler.specs.declared.tick.Best.{Best}

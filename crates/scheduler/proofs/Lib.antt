@@ -17,4 +17,11 @@ pub mod Clauses
 pub mod Answers
 pub mod Tables
 pub mod Ticks
+pub mod Keeps
+pub mod KeepsBounds
+pub mod FreshBounds
+pub mod InBounds
+pub mod Sums
+pub mod Balanced
+pub mod Ruled
 pub mod Examples

@@ -1,6 +1,6 @@
 -- Laws of scans over places, in the form in which a loop makes its turns.
 use mathlib.Core.Bool.{Bool, true, false, not, _||_, false≢true}
-use mathlib.Core.List.{List, [], _∷_}
+use mathlib.Core.List.{List}
 use mathlib.Core.Logic.{⊎-elim}
 use mathlib.Core.Path.{_≡_, refl, sym, ap, _∙_}
 use native.Mathlib.Nat.{eq-or-lt-of-le, le-of-suc-le-suc, not-suc-le-zero}
@@ -9,7 +9,7 @@ use native.Mathlib.Omega.{arith}
 use Prim.Native.Nat.{ℕ, zero, suc, _+_, _≤_, _<_}
 use lib.Dec.{eqb}
 use lib.ListN.{length, getD, set, drop, length-set, drop-of-length-le}
-use lib.Seq.{drop-cons, getD-set-same, getD-set-other}
+use lib.Seq.{drop-cons, drop-set-lt, getD-set-same, getD-set-other}
 use Rattle.demand.specs.Tests.{pick}
 use Rattle.scheduler.specs.Scans.{any, firstOf, filled, used}
 
@@ -115,6 +115,11 @@ module _ (f : ℕ → ℕ) where
       (λ e. rw (e, getD-set-same (filled f n xs) n (f n) 0 (omega (arith, length-filled n xs))))
       (λ h. getD-set-other (filled f n xs) n k (f n) 0 (λ e. omega arith) ∙ filled-below n k xs h (omega arith))
       (eq-or-lt-of-le (le-of-suc-le-suc l))
+
+  pub filled-drop : (n k : ℕ) (xs : List ℕ) → n ≤ k → drop k (filled f n xs) ≡ drop k xs
+  unfolding filled
+  filled-drop zero k xs l = refl
+  filled-drop (suc n) k xs l = drop-set-lt k (filled f n xs) n (f n) l ∙ filled-drop n k xs (omega arith)
 
   -- In turn i the number at i is still the old one, and its new one is stored.
   pub filled-old : (i : ℕ) (xs ys : List ℕ) → ys ≡ filled f i xs → getD ys i 0 ≡ getD xs i 0

@@ -1,11 +1,10 @@
 -- A table without a refusal has whole rows and room in a run; how a fresh run is put together.
-use mathlib.Core.Bool.{Bool, true, false, _||_, false≢true}
-use mathlib.Core.List.{List, [], _∷_, _++_}
-use mathlib.Core.Path.{_≡_, refl, sym, ap, _∙_}
+use mathlib.Core.Bool.{false, _||_}
+use mathlib.Core.List.{List, _++_}
+use mathlib.Core.Path.{_≡_}
 use native.Mathlib.Omega.{arith}
 use borrow.Author.Tests.{eqb-false, eq-eqb, ne-eqb}
 use Prim.Native.Nat.{ℕ, zero, suc, _-_, _*_, _/_, _%_, _≤_}
-use lib.Dec.{eqb}
 use lib.ListN.{length, drop, replicate}
 use Rattle.demand.proofs.Refused.{not-refused, refusal-in-range}
 use Rattle.demand.proofs.Slices.{rows-count}
@@ -14,7 +13,6 @@ use Rattle.demand.specs.Rows.{tasksOf, handlersOf}
 use Rattle.scheduler.specs.Runs.{runOf}
 use Rattle.scheduler.specs.Start.{padded, zeros, freshRun, noRun, freshOf}
 use Rattle.scheduler.specs.declared.Late.the-variants.{Nobody}
-use Rattle.scheduler.specs.declared.Run.{Run}
 use Rattle.scheduler.specs.declared.Start.the-variants.{Ready, Refused}
 use Rattle.scheduler.proofs.Scan.{neither}
 
@@ -45,7 +43,7 @@ handlers-fit t h e = let w = whole t h e in omega (arith, w .handlers, w .in-ran
 
 -- ---- the fresh run
 
-drop-replicate : (k n : ℕ) → drop {A = ℕ} k (replicate n 0) ≡ replicate (n - k) 0
+pub drop-replicate : (k n : ℕ) → drop {A = ℕ} k (replicate n 0) ≡ replicate (n - k) 0
 drop-replicate zero n = let e : n - 0 ≡ n = omega arith in rw e
 drop-replicate (suc k) zero = let e : 0 - suc k ≡ 0 = omega arith in rw e
 drop-replicate (suc k) (suc n) = let e : suc n - suc k ≡ n - k = omega arith in rw e (drop-replicate k n)

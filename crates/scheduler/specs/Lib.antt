@@ -7,3 +7,6 @@ pub mod Bounds
 pub mod Tick
 pub mod Steps
 pub mod Start
+pub mod Reached
+pub mod Books
+pub mod Rule

@@ -4,6 +4,7 @@
 --   stepBy key r ws      == the answer, where of the tasks owed work the one with the smallest key runs
 --   stepOf r ws          == the answer, where the earliest deadline runs
 --   figures answer       == the paper's number and values for each case of an answer; what does not apply is 0
+--   noFigures k          == those of refusal k
 use mathlib.Core.Bool.{Bool, not, _&&_}
 use mathlib.Core.List.{List}
 use Prim.Native.Nat.{ℕ}
@@ -86,6 +87,9 @@ abbrev pub rowLate : Late → ℕ
 rowLate late.Nobody = 0
 rowLate (late.Task i) = i
 
+abbrev pub noFigures : ℕ → Figures
+noFigures k = record { code = k; ran = nobody; row = 0; late = nobody; lateRow = 0 }
+
 unfoldable pub figures : Answer → Figures
 figures (Ticked ran late) = record { code = 0; ran = whoRan ran; row = rowRan ran; late = whoLate late; lateRow = rowLate late }
-figures (Refused k) = record { code = k; ran = nobody; row = 0; late = nobody; lateRow = 0 }
+figures (Refused k) = noFigures k

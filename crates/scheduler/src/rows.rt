@@ -1,7 +1,7 @@
 // What stands at a place: a row of the table, and the deadline of a task's last job.
 ghost use mathlib.Core.Path.{_≡_};
 ghost use Prim.Native.Nat.{_+_, _*_, _<_, _≤_};
-ghost use lib.ListN.{length, getD};
+ghost use lib.ListN.{length};
 ghost use Rattle.demand.specs.Rows.{rowsOf, rowAt};
 ghost use Rattle.demand.specs.Walk.{rowOf};
 ghost use Rattle.scheduler.specs.Runs.{rowOn, Fitting};

@@ -1,7 +1,6 @@
 // The tick: who runs, what that leaves owed, who is late.
 ghost use mathlib.Core.Path.{_≡_};
 ghost use Prim.Native.Nat.{_+_, _<_, _≤_};
-ghost use lib.ListN.{length};
 ghost use Rattle.scheduler.specs.Machine.{dueOf};
 ghost use Rattle.scheduler.specs.Scans.{at};
 ghost use Rattle.scheduler.specs.Steps.{stepRefusal};

@@ -1,13 +1,8 @@
-use mathlib.Core.Path.{_≡_, sym, ap, _∙_}
-use Rattle.scheduler.proofs.Tables.{fresh-ready, fresh-refused}
+use mathlib.Core.Path.{sym, _∙_}
 use borrow.Author.Needs.{needs}
+use Rattle.scheduler.proofs.Tables.{fresh-ready, fresh-refused}
 use Rattle.scheduler.proofs.Run.fresh.Statement.{statement}
 use Rattle.scheduler.proofs.Run.fresh.Tie as tie
-use Rattle.scheduler.proofs.Run.fresh.Reads as reads
-use Rattle.scheduler.proofs.Run.fresh.Lts as lts
-use Rattle.demand.proofs.refusal.of_table.Reads as of-table-reads
-use Rattle.scheduler.proofs.begin.fresh_run.Reads as fresh-run-reads
-use Rattle.scheduler.proofs.begin.no_run.Reads as no-run-reads
 
 of-table-requires : tie.Need-of-table-requires
 of-table-requires c κs = search needs

@@ -1,12 +1,8 @@
-use mathlib.Core.Path.{_≡_, sym, _∙_}
-use Rattle.scheduler.proofs.Answers.{step-ticks, step-refused}
+use mathlib.Core.Path.{sym, _∙_}
 use borrow.Author.Needs.{needs}
+use Rattle.scheduler.proofs.Answers.{step-ticks, step-refused}
 use Rattle.scheduler.proofs.Run.step.Statement.{statement}
 use Rattle.scheduler.proofs.Run.step.Tie as tie
-use Rattle.scheduler.proofs.Run.step.Reads as reads
-use Rattle.scheduler.proofs.Run.step.Lts as lts
-use Rattle.scheduler.proofs.refusal.of_step.Reads as of-step-reads
-use Rattle.scheduler.proofs.tick.ticked.Reads as ticked-reads
 
 of-step-requires : tie.Need-of-step-requires
 of-step-requires c κs = search needs

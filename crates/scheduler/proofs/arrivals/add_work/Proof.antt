@@ -1,16 +1,13 @@
-use mathlib.Core.Path.{_≡_, refl, sym, ap}
+use mathlib.Core.Path.{_≡_, sym}
 use native.Mathlib.Omega.{arith}
-use Prim.Native.Nat.{ℕ, _+_, _≤_, _<_, _-_}
+use borrow.Author.Needs.{needs}
+use Prim.Native.Nat.{_+_, _≤_, _-_}
 use lib.ListN.{length, getD}
 use Rattle.scheduler.specs.Scans.{filled}
 use Rattle.scheduler.specs.Tick.{owedArrived}
 use Rattle.scheduler.proofs.Scan.{filled-zero, filled-old, filled-turn, filled-end}
-use borrow.Author.Needs.{needs}
 use Rattle.scheduler.proofs.arrivals.add_work.Statement.{statement}
 use Rattle.scheduler.proofs.arrivals.add_work.Tie as tie
-use Rattle.scheduler.proofs.arrivals.add_work.Reads as reads
-use Rattle.scheduler.proofs.arrivals.add_work.Lts as lts
-use Rattle.scheduler.proofs.arrivals.wide.Reads as wide-reads
 
 abbrev Inv-loop : tie.InvT-loop
 Inv-loop owed₀ arrivals k₀ owed k = (k ≤ length arrivals) × (owed ≡ filled (λ j. getD owed₀ j 0 + getD arrivals j 0) k owed₀)

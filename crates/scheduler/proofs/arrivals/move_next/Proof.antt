@@ -1,7 +1,7 @@
-use mathlib.Core.Path.{_∙_}
-use mathlib.Core.Path.{_≡_, refl, sym, ap}
+use mathlib.Core.Path.{_∙_, _≡_, sym, ap}
 use native.Mathlib.Omega.{arith}
-use Prim.Native.Nat.{ℕ, _+_, _≤_, _<_, _-_}
+use borrow.Author.Needs.{needs}
+use Prim.Native.Nat.{_+_, _≤_, _-_}
 use lib.ListN.{length, getD}
 use Rattle.demand.specs.Rows.{Row}
 use Rattle.scheduler.specs.Runs.{rowOn}
@@ -9,13 +9,8 @@ use Rattle.scheduler.specs.Scans.{filled}
 use Rattle.scheduler.specs.Tick.{nextAfter, nextArrived}
 use Rattle.scheduler.proofs.RowPlaces.{fair-at}
 use Rattle.scheduler.proofs.Scan.{filled-zero, filled-old, filled-turn, filled-end}
-use borrow.Author.Needs.{needs}
 use Rattle.scheduler.proofs.arrivals.move_next.Statement.{statement}
 use Rattle.scheduler.proofs.arrivals.move_next.Tie as tie
-use Rattle.scheduler.proofs.arrivals.move_next.Reads as reads
-use Rattle.scheduler.proofs.arrivals.move_next.Lts as lts
-use Rattle.scheduler.proofs.arrivals.next_after.Reads as next-after-reads
-use Rattle.scheduler.proofs.rows.row_at.Reads as row-at-reads
 
 abbrev Inv-loop : tie.InvT-loop
 Inv-loop next₀ tasks handlers n m clock arrivals k₀ next k = (k ≤ length arrivals) × (next ≡ filled (λ j. nextAfter clock (rowOn tasks handlers n j) (getD arrivals j 0) (getD next₀ j 0)) k next₀)

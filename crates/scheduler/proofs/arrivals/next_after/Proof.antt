@@ -1,9 +1,7 @@
-use borrow.Author.Tests.{eq-eqb, ne-eqb}
 use borrow.Author.Needs.{needs}
+use borrow.Author.Tests.{eq-eqb, ne-eqb}
 use Rattle.scheduler.proofs.arrivals.next_after.Statement.{statement}
 use Rattle.scheduler.proofs.arrivals.next_after.Tie as tie
-use Rattle.scheduler.proofs.arrivals.next_after.Reads as reads
-use Rattle.scheduler.proofs.arrivals.next_after.Lts as lts
 
 add-result : tie.Need-add-result
 add-result c = search needs

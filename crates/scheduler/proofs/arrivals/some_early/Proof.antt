@@ -1,14 +1,12 @@
 use mathlib.Core.Path.{_≡_, refl, sym}
+use borrow.Author.Needs.{needs}
 use Prim.Native.Nat.{_≤_, _-_}
 use lib.ListN.{length}
 use Rattle.scheduler.specs.Scans.{any}
 use Rattle.scheduler.specs.Steps.{early}
 use Rattle.scheduler.proofs.Scan.{at-end, any-zero, any-turn}
-use borrow.Author.Needs.{needs}
 use Rattle.scheduler.proofs.arrivals.some_early.Statement.{statement}
 use Rattle.scheduler.proofs.arrivals.some_early.Tie as tie
-use Rattle.scheduler.proofs.arrivals.some_early.Reads as reads
-use Rattle.scheduler.proofs.arrivals.some_early.Lts as lts
 
 abbrev Inv-loop : tie.InvT-loop
 Inv-loop next arrivals clock bad₀ k₀ bad k = (k ≤ length arrivals) × (bad ≡ any (early clock next arrivals) k)

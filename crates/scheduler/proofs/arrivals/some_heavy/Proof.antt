@@ -1,19 +1,14 @@
-use mathlib.Core.Path.{_≡_, refl, sym, ap}
-use Prim.Native.Nat.{ℕ, _≤_, _<_, _-_}
-use lib.Dec.{ltb}
+use mathlib.Core.Path.{_≡_, sym, ap}
+use borrow.Author.Needs.{needs}
+use Prim.Native.Nat.{_≤_, _-_}
 use lib.ListN.{length}
 use Rattle.demand.specs.Rows.{Row}
 use Rattle.scheduler.specs.Runs.{rowOn}
 use Rattle.scheduler.specs.Scans.{any}
 use Rattle.scheduler.specs.Steps.{heavy}
 use Rattle.scheduler.proofs.Scan.{at-end, any-zero, any-turn}
-use borrow.Author.Needs.{needs}
 use Rattle.scheduler.proofs.arrivals.some_heavy.Statement.{statement}
 use Rattle.scheduler.proofs.arrivals.some_heavy.Tie as tie
-use Rattle.scheduler.proofs.arrivals.some_heavy.Reads as reads
-use Rattle.scheduler.proofs.arrivals.some_heavy.Lts as lts
-use Rattle.scheduler.proofs.arrivals.wide.Reads as wide-reads
-use Rattle.scheduler.proofs.rows.row_at.Reads as row-at-reads
 
 abbrev Inv-loop : tie.InvT-loop
 Inv-loop tasks handlers n m arrivals bad₀ k₀ bad k = (k ≤ length arrivals) × (bad ≡ any (heavy (rowOn tasks handlers n) arrivals) k)

@@ -1,14 +1,12 @@
 use mathlib.Core.List.{_++_}
-use mathlib.Core.Path.{_≡_, refl, sym, ap}
+use mathlib.Core.Path.{_≡_, refl}
 use native.Mathlib.Omega.{arith}
+use borrow.Author.Needs.{needs}
 use Prim.Native.Nat.{_≤_, _-_}
 use lib.ListN.{length, take, drop}
-use Rattle.scheduler.proofs.Copies.{copy-zero, copy-turn, copy-end, copy-length}
-use borrow.Author.Needs.{needs}
+use Rattle.scheduler.proofs.Copies.{copy-turn, copy-end, copy-length}
 use Rattle.scheduler.proofs.begin.copy_in.Statement.{statement}
 use Rattle.scheduler.proofs.begin.copy_in.Tie as tie
-use Rattle.scheduler.proofs.begin.copy_in.Reads as reads
-use Rattle.scheduler.proofs.begin.copy_in.Lts as lts
 
 abbrev Inv-loop : tie.InvT-loop
 Inv-loop out₀ s k₀ out k = (k ≤ length s) × (out ≡ take k s ++ drop k out₀)

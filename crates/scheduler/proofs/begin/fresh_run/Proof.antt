@@ -1,11 +1,8 @@
+use borrow.Author.Needs.{needs}
 use Rattle.scheduler.specs.Start.{zeros}
 use Rattle.scheduler.proofs.Tables.{tasks-fit, handlers-fit, fresh-made}
-use borrow.Author.Needs.{needs}
 use Rattle.scheduler.proofs.begin.fresh_run.Statement.{statement}
 use Rattle.scheduler.proofs.begin.fresh_run.Tie as tie
-use Rattle.scheduler.proofs.begin.fresh_run.Reads as reads
-use Rattle.scheduler.proofs.begin.fresh_run.Lts as lts
-use Rattle.scheduler.proofs.begin.copy_in.Reads as copy-in-reads
 
 slice-aggregate-copy-in : tie.Need-slice-aggregate-copy-in
 slice-aggregate-copy-in c = search needs

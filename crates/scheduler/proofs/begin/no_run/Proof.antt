@@ -2,8 +2,6 @@ use mathlib.Core.Path.{refl}
 use Rattle.scheduler.specs.Start.{noRun, zeros}
 use Rattle.scheduler.proofs.begin.no_run.Statement.{statement}
 use Rattle.scheduler.proofs.begin.no_run.Tie as tie
-use Rattle.scheduler.proofs.begin.no_run.Reads as reads
-use Rattle.scheduler.proofs.begin.no_run.Lts as lts
 
 returns : tie.Need-returns
 unfolding noRun zeros

@@ -1,15 +1,11 @@
-use mathlib.Core.Bool.{_&&_}
-use mathlib.Core.Path.{_≡_, refl, sym, ap}
-use Prim.Native.Nat.{ℕ, _≤_, _-_}
+use mathlib.Core.Path.{_≡_, sym}
+use borrow.Author.Needs.{needs}
+use Prim.Native.Nat.{_≤_, _-_}
 use Rattle.scheduler.specs.Bounds.{missed}
 use Rattle.scheduler.specs.Scans.{at, any}
 use Rattle.scheduler.proofs.Scan.{at-end, any-zero, any-turn}
-use borrow.Author.Needs.{needs}
 use Rattle.scheduler.proofs.bounds.deadline_missed.Statement.{statement}
 use Rattle.scheduler.proofs.bounds.deadline_missed.Tie as tie
-use Rattle.scheduler.proofs.bounds.deadline_missed.Reads as reads
-use Rattle.scheduler.proofs.bounds.deadline_missed.Lts as lts
-use Rattle.scheduler.proofs.bounds.passed.Reads as passed-reads
 
 abbrev Inv-loop : tie.InvT-loop
 Inv-loop due owed n clock over bad₀ k₀ bad k = (k ≤ n) × (bad ≡ any (missed over clock (at due) owed) k)

@@ -1,18 +1,13 @@
-use mathlib.Core.Path.{_≡_, refl, sym, ap}
-use Prim.Native.Nat.{ℕ, _+_, _≤_, _<_, _-_}
+use mathlib.Core.Path.{_≡_, sym, ap}
+use borrow.Author.Needs.{needs}
+use Prim.Native.Nat.{_+_, _≤_, _-_}
 use Rattle.demand.specs.Refusals.{rowOutside}
-use Rattle.demand.specs.Rows.{Row}
 use Rattle.scheduler.specs.Bounds.{outsideAt}
 use Rattle.scheduler.specs.Runs.{rowOn}
 use Rattle.scheduler.specs.Scans.{any}
 use Rattle.scheduler.proofs.Scan.{at-end, any-zero, any-turn}
-use borrow.Author.Needs.{needs}
 use Rattle.scheduler.proofs.bounds.figures_outside.Statement.{statement}
 use Rattle.scheduler.proofs.bounds.figures_outside.Tie as tie
-use Rattle.scheduler.proofs.bounds.figures_outside.Reads as reads
-use Rattle.scheduler.proofs.bounds.figures_outside.Lts as lts
-use Rattle.scheduler.proofs.bounds.outside.Reads as outside-reads
-use Rattle.scheduler.proofs.rows.row_at.Reads as row-at-reads
 
 abbrev Inv-loop : tie.InvT-loop
 Inv-loop tasks handlers n m bad₀ k₀ bad k = (k ≤ n + m) × (bad ≡ any (outsideAt (rowOn tasks handlers n)) k)

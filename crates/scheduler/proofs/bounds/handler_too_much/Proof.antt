@@ -1,21 +1,15 @@
-use Rattle.scheduler.proofs.RowPlaces.{fits-product}
-use mathlib.Core.Path.{_≡_, refl, sym, ap}
-use native.Mathlib.Nat.{mul-le-mul}
+use mathlib.Core.Path.{_≡_, sym, ap}
 use native.Mathlib.Omega.{arith}
-use Prim.Native.Nat.{ℕ, _+_, _*_, _≤_, _<_, _-_}
-use lib.Dec.{ltb}
+use borrow.Author.Needs.{needs}
+use Prim.Native.Nat.{_+_, _≤_, _-_}
 use Rattle.demand.specs.Rows.{Row}
 use Rattle.scheduler.specs.Bounds.{tooMuchBehind}
 use Rattle.scheduler.specs.Runs.{rowOn}
 use Rattle.scheduler.specs.Scans.{any}
-use Rattle.scheduler.proofs.RowPlaces.{fair-at}
+use Rattle.scheduler.proofs.RowPlaces.{fits-product, fair-at}
 use Rattle.scheduler.proofs.Scan.{at-end, any-zero, any-turn}
-use borrow.Author.Needs.{needs}
 use Rattle.scheduler.proofs.bounds.handler_too_much.Statement.{statement}
 use Rattle.scheduler.proofs.bounds.handler_too_much.Tie as tie
-use Rattle.scheduler.proofs.bounds.handler_too_much.Reads as reads
-use Rattle.scheduler.proofs.bounds.handler_too_much.Lts as lts
-use Rattle.scheduler.proofs.rows.row_at.Reads as row-at-reads
 
 abbrev Inv-loop : tie.InvT-loop
 Inv-loop tasks handlers owed n m clock bad₀ i₀ bad i = (i ≤ m) × (bad ≡ any (tooMuchBehind clock (rowOn tasks handlers n) owed n) i)

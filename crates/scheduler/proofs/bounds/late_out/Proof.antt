@@ -1,12 +1,7 @@
-use Rattle.scheduler.proofs.Scan.{or-false}
 use borrow.Author.Needs.{needs}
+use Rattle.scheduler.proofs.Scan.{or-false}
 use Rattle.scheduler.proofs.bounds.late_out.Statement.{statement}
 use Rattle.scheduler.proofs.bounds.late_out.Tie as tie
-use Rattle.scheduler.proofs.bounds.late_out.Reads as reads
-use Rattle.scheduler.proofs.bounds.late_out.Lts as lts
-use Rattle.scheduler.proofs.bounds.names.Reads as names-reads
-use Rattle.scheduler.proofs.tick.is_task.Reads as is-task-reads
-use Rattle.scheduler.proofs.tick.late_row.Reads as late-row-reads
 
 late-row-requires : tie.Need-late-row-requires
 late-row-requires c κs = search needs

@@ -1,8 +1,6 @@
 use borrow.Author.Needs.{needs}
 use Rattle.scheduler.proofs.bounds.names.Statement.{statement}
 use Rattle.scheduler.proofs.bounds.names.Tie as tie
-use Rattle.scheduler.proofs.bounds.names.Reads as reads
-use Rattle.scheduler.proofs.bounds.names.Lts as lts
 
 enum-told : tie.Need-enum-told
 enum-told c = search needs

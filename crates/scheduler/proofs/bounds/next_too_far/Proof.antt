@@ -1,20 +1,15 @@
-use mathlib.Core.Path.{_≡_, refl, sym, ap}
+use mathlib.Core.Path.{_≡_, sym, ap}
 use native.Mathlib.Omega.{arith}
-use Prim.Native.Nat.{ℕ, _+_, _≤_, _<_, _-_}
-use lib.Dec.{ltb}
-use Rattle.demand.specs.Refusals.{FairRow}
+use borrow.Author.Needs.{needs}
+use Prim.Native.Nat.{_+_, _≤_, _-_}
 use Rattle.demand.specs.Rows.{Row}
 use Rattle.scheduler.specs.Bounds.{tooFar}
 use Rattle.scheduler.specs.Runs.{rowOn}
 use Rattle.scheduler.specs.Scans.{any}
 use Rattle.scheduler.proofs.RowPlaces.{fair-at}
 use Rattle.scheduler.proofs.Scan.{at-end, any-zero, any-turn}
-use borrow.Author.Needs.{needs}
 use Rattle.scheduler.proofs.bounds.next_too_far.Statement.{statement}
 use Rattle.scheduler.proofs.bounds.next_too_far.Tie as tie
-use Rattle.scheduler.proofs.bounds.next_too_far.Reads as reads
-use Rattle.scheduler.proofs.bounds.next_too_far.Lts as lts
-use Rattle.scheduler.proofs.rows.row_at.Reads as row-at-reads
 
 abbrev Inv-loop : tie.InvT-loop
 Inv-loop tasks handlers next n m clock bad₀ k₀ bad k = (k ≤ n + m) × (bad ≡ any (tooFar clock (rowOn tasks handlers n) next) k)

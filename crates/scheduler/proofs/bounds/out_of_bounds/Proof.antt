@@ -1,16 +1,8 @@
-use mathlib.Core.Path.{_≡_, sym, _∙_}
-use Rattle.scheduler.proofs.Clauses.{fitting, out-counts, out-figures, out-places, out-clock, out-rest}
+use mathlib.Core.Path.{sym, _∙_}
 use borrow.Author.Needs.{needs}
+use Rattle.scheduler.proofs.Clauses.{fitting, out-counts, out-figures, out-places, out-clock, out-rest}
 use Rattle.scheduler.proofs.bounds.out_of_bounds.Statement.{statement}
 use Rattle.scheduler.proofs.bounds.out_of_bounds.Tie as tie
-use Rattle.scheduler.proofs.bounds.out_of_bounds.Reads as reads
-use Rattle.scheduler.proofs.bounds.out_of_bounds.Lts as lts
-use Rattle.scheduler.proofs.bounds.deadline_missed.Reads as deadline-missed-reads
-use Rattle.scheduler.proofs.bounds.figures_outside.Reads as figures-outside-reads
-use Rattle.scheduler.proofs.bounds.late_out.Reads as late-out-reads
-use Rattle.scheduler.proofs.bounds.miscounts.Reads as miscounts-reads
-use Rattle.scheduler.proofs.bounds.places_used.Reads as places-used-reads
-use Rattle.scheduler.proofs.bounds.rows_out.Reads as rows-out-reads
 
 miscounts-requires : tie.Need-miscounts-requires
 miscounts-requires c κs = search needs

@@ -1,7 +1,5 @@
 use Rattle.scheduler.proofs.bounds.passed.Statement.{statement}
 use Rattle.scheduler.proofs.bounds.passed.Tie as tie
-use Rattle.scheduler.proofs.bounds.passed.Reads as reads
-use Rattle.scheduler.proofs.bounds.passed.Lts as lts
 
 returns : tie.Need-returns
 returns c = simp (c .if1 .taken)

@@ -1,10 +1,6 @@
 use borrow.Author.Needs.{needs}
 use Rattle.scheduler.proofs.bounds.places_used.Statement.{statement}
 use Rattle.scheduler.proofs.bounds.places_used.Tie as tie
-use Rattle.scheduler.proofs.bounds.places_used.Reads as reads
-use Rattle.scheduler.proofs.bounds.places_used.Lts as lts
-use Rattle.scheduler.proofs.bounds.used_numbers.Reads as used-numbers-reads
-use Rattle.scheduler.proofs.bounds.used_ticks.Reads as used-ticks-reads
 
 mul-used-numbers : tie.Need-mul-used-numbers
 mul-used-numbers c = search needs

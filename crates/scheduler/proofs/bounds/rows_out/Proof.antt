@@ -1,11 +1,6 @@
 use borrow.Author.Needs.{needs}
 use Rattle.scheduler.proofs.bounds.rows_out.Statement.{statement}
 use Rattle.scheduler.proofs.bounds.rows_out.Tie as tie
-use Rattle.scheduler.proofs.bounds.rows_out.Reads as reads
-use Rattle.scheduler.proofs.bounds.rows_out.Lts as lts
-use Rattle.scheduler.proofs.bounds.handler_too_much.Reads as handler-too-much-reads
-use Rattle.scheduler.proofs.bounds.next_too_far.Reads as next-too-far-reads
-use Rattle.scheduler.proofs.bounds.task_too_much.Reads as task-too-much-reads
 
 next-too-far-requires : tie.Need-next-too-far-requires
 next-too-far-requires c κs = search needs

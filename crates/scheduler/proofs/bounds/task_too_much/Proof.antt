@@ -1,17 +1,13 @@
-use mathlib.Core.Path.{_≡_, refl, sym, ap}
-use Prim.Native.Nat.{ℕ, _+_, _≤_, _<_, _-_}
-use lib.Dec.{ltb}
+use mathlib.Core.Path.{_≡_, sym, ap}
+use borrow.Author.Needs.{needs}
+use Prim.Native.Nat.{_≤_, _-_}
 use Rattle.demand.specs.Rows.{Row}
 use Rattle.scheduler.specs.Bounds.{tooMuch}
 use Rattle.scheduler.specs.Runs.{rowOn}
 use Rattle.scheduler.specs.Scans.{any}
 use Rattle.scheduler.proofs.Scan.{at-end, any-zero, any-turn}
-use borrow.Author.Needs.{needs}
 use Rattle.scheduler.proofs.bounds.task_too_much.Statement.{statement}
 use Rattle.scheduler.proofs.bounds.task_too_much.Tie as tie
-use Rattle.scheduler.proofs.bounds.task_too_much.Reads as reads
-use Rattle.scheduler.proofs.bounds.task_too_much.Lts as lts
-use Rattle.scheduler.proofs.rows.row_at.Reads as row-at-reads
 
 abbrev Inv-loop : tie.InvT-loop
 Inv-loop tasks handlers owed n m bad₀ k₀ bad k = (k ≤ n) × (bad ≡ any (tooMuch (rowOn tasks handlers n) owed) k)

@@ -1,14 +1,12 @@
 use mathlib.Core.Bool.{_||_}
 use mathlib.Core.Path.{_≡_, refl}
+use borrow.Author.Needs.{needs}
 use Prim.Native.Nat.{_≤_, _-_}
 use lib.ListN.{length, drop}
 use Rattle.scheduler.specs.Scans.{used}
 use Rattle.scheduler.proofs.Scan.{used-turn, used-end}
-use borrow.Author.Needs.{needs}
 use Rattle.scheduler.proofs.bounds.used_numbers.Statement.{statement}
 use Rattle.scheduler.proofs.bounds.used_numbers.Tie as tie
-use Rattle.scheduler.proofs.bounds.used_numbers.Reads as reads
-use Rattle.scheduler.proofs.bounds.used_numbers.Lts as lts
 
 abbrev Inv-loop : tie.InvT-loop
 Inv-loop s from bad₀ k₀ bad k = (k ≤ length s) × ((bad || used (drop k s)) ≡ used (drop from s))

@@ -1,15 +1,10 @@
-use mathlib.Core.Path.{_≡_, sym, _∙_}
+use mathlib.Core.Path.{sym, _∙_}
 use native.Mathlib.Omega.{arith}
+use borrow.Author.Needs.{needs}
 use Rattle.scheduler.proofs.Answers.{refusal-6, refusal-7, refusal-8, refusal-9, refusal-10, refusal-11, refusal-0}
 use Rattle.scheduler.proofs.Clauses.{clauses, clauses-fit}
-use borrow.Author.Needs.{needs}
 use Rattle.scheduler.proofs.refusal.of_step.Statement.{statement}
 use Rattle.scheduler.proofs.refusal.of_step.Tie as tie
-use Rattle.scheduler.proofs.refusal.of_step.Reads as reads
-use Rattle.scheduler.proofs.refusal.of_step.Lts as lts
-use Rattle.scheduler.proofs.arrivals.some_early.Reads as some-early-reads
-use Rattle.scheduler.proofs.arrivals.some_heavy.Reads as some-heavy-reads
-use Rattle.scheduler.proofs.bounds.out_of_bounds.Reads as out-of-bounds-reads
 
 out-of-bounds-requires : tie.Need-out-of-bounds-requires
 out-of-bounds-requires c κs = search needs
@@ -21,31 +16,65 @@ returns-2 : tie.Need-returns-2
 returns-2 c = refusal-7 _ _ (sym (c .before .if1 .left) ∙ c .before .before .out-of-bounds .ensures) (c .if2 .taken)
 
 returns-3 : tie.Need-returns-3
-returns-3 c = refusal-8 _ _ (sym (c .before .before .if1 .left) ∙ c .before .before .before .out-of-bounds .ensures) (c .before .if2 .left) (c .if3 .taken)
+returns-3 c =
+    let if2 = c .before in
+    let if1 = if2 .before in
+    refusal-8 _ _ (sym (if1 .if1 .left) ∙ if1 .before .out-of-bounds .ensures) (if2 .if2 .left) (c .if3 .taken)
 
 add-if4 : tie.Need-add-if4
-add-if4 c = let fit = clauses-fit _ (clauses _ (sym (c .before .before .before .out-of-bounds .ensures) ∙ c .before .before .if1 .left)) in omega (arith, fit .tasks, fit .handlers)
+add-if4 c =
+    let if1 = c .before .before in
+    let fit = clauses-fit _ (clauses _ (sym (if1 .before .out-of-bounds .ensures) ∙ if1 .if1 .left)) in
+    omega (arith, fit .tasks, fit .handlers)
 
 returns-4 : tie.Need-returns-4
-returns-4 c = refusal-9 _ _ (sym (c .before .before .before .if1 .left) ∙ c .before .before .before .before .out-of-bounds .ensures) (c .before .before .if2 .left) (c .before .if3 .left) (c .if4 .taken)
+returns-4 c =
+    let if3 = c .before in
+    let if2 = if3 .before in
+    let if1 = if2 .before in
+    refusal-9 _ _ (sym (if1 .if1 .left) ∙ if1 .before .out-of-bounds .ensures) (if2 .if2 .left) (if3 .if3 .left) (c .if4 .taken)
 
 some-early-requires : tie.Need-some-early-requires
-some-early-requires c κs = let fit = clauses-fit _ (clauses _ (sym (c .before .before .before .before .out-of-bounds .ensures) ∙ c .before .before .before .if1 .left)) in omega (arith, fit .tasks, fit .handlers)
+some-early-requires c κs =
+    let if1 = c .before .before .before in
+    let fit = clauses-fit _ (clauses _ (sym (if1 .before .out-of-bounds .ensures) ∙ if1 .if1 .left)) in
+    omega (arith, fit .tasks, fit .handlers)
 
 returns-5 : tie.Need-returns-5
-returns-5 c = refusal-10 _ _ (sym (c .before .before .before .before .before .if1 .left) ∙ c .before .before .before .before .before .before .out-of-bounds .ensures) (c .before .before .before .before .if2 .left) (c .before .before .before .if3 .left) (c .before .before .if4 .left) (sym (c .before .some-early .ensures) ∙ c .if5 .taken)
+returns-5 c =
+    let if4 = c .before .before in
+    let if3 = if4 .before in
+    let if2 = if3 .before in
+    let if1 = if2 .before in
+    refusal-10 _ _ (sym (if1 .if1 .left) ∙ if1 .before .out-of-bounds .ensures) (if2 .if2 .left) (if3 .if3 .left) (if4 .if4 .left)
+    (sym (c .before .some-early .ensures) ∙ c .if5 .taken)
 
 some-heavy-requires : tie.Need-some-heavy-requires
-some-heavy-requires c κs = (clauses-fit _ (clauses _ (sym (c .before .before .before .before .before .before .out-of-bounds .ensures) ∙ c .before .before .before .before .before .if1 .left)), c .before .before .if4 .left)
+some-heavy-requires c κs =
+    let if4 = c .before .before in
+    let if1 = if4 .before .before .before in
+    (clauses-fit _ (clauses _ (sym (if1 .before .out-of-bounds .ensures) ∙ if1 .if1 .left)), if4 .if4 .left)
 
 returns-6 : tie.Need-returns-6
 returns-6 c =
-    refusal-11 _ _ (sym (c .before .before .before .before .before .before .before .if1 .left) ∙ c .before .before .before .before .before .before .before .before .out-of-bounds .ensures) (c .before .before .before .before .before .before .if2 .left) (c .before .before .before .before .before .if3 .left) (c .before .before .before .before .if4 .left) (sym (c .before .before .before .some-early .ensures) ∙ c .before .before .if5 .left)
+    let if5 = c .before .before in
+    let if4 = if5 .before .before in
+    let if3 = if4 .before in
+    let if2 = if3 .before in
+    let if1 = if2 .before in
+    refusal-11 _ _ (sym (if1 .if1 .left) ∙ if1 .before .out-of-bounds .ensures) (if2 .if2 .left) (if3 .if3 .left) (if4 .if4 .left)
+    (sym (if5 .before .some-early .ensures) ∙ if5 .if5 .left)
     (sym (c .before .some-heavy .ensures) ∙ c .if6 .taken)
 
 returns-7 : tie.Need-returns-7
 returns-7 c =
-    refusal-0 _ _ (sym (c .before .before .before .before .before .before .before .if1 .left) ∙ c .before .before .before .before .before .before .before .before .out-of-bounds .ensures) (c .before .before .before .before .before .before .if2 .left) (c .before .before .before .before .before .if3 .left) (c .before .before .before .before .if4 .left) (sym (c .before .before .before .some-early .ensures) ∙ c .before .before .if5 .left)
+    let if5 = c .before .before in
+    let if4 = if5 .before .before in
+    let if3 = if4 .before in
+    let if2 = if3 .before in
+    let if1 = if2 .before in
+    refusal-0 _ _ (sym (if1 .if1 .left) ∙ if1 .before .out-of-bounds .ensures) (if2 .if2 .left) (if3 .if3 .left) (if4 .if4 .left)
+    (sym (if5 .before .some-early .ensures) ∙ if5 .if5 .left)
     (sym (c .before .some-heavy .ensures) ∙ c .if6 .left)
 
 pub of-step-spec : {M : Type 1} → statement M

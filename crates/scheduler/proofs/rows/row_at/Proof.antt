@@ -1,11 +1,7 @@
-use mathlib.Core.Path.{_∙_}
-use borrow.Author.Tests.{lt-ltb, le-ltb}
 use borrow.Author.Needs.{needs}
+use borrow.Author.Tests.{lt-ltb, le-ltb}
 use Rattle.scheduler.proofs.rows.row_at.Statement.{statement}
 use Rattle.scheduler.proofs.rows.row_at.Tie as tie
-use Rattle.scheduler.proofs.rows.row_at.Reads as reads
-use Rattle.scheduler.proofs.rows.row_at.Lts as lts
-use Rattle.scheduler.proofs.rows.row_of.Reads as row-of-reads
 
 row-of-requires : tie.Need-row-of-requires
 row-of-requires c κs = search needs

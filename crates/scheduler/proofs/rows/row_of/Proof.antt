@@ -1,10 +1,7 @@
-use Rattle.scheduler.proofs.RowPlaces.{row-read}
 use borrow.Author.Needs.{needs}
+use Rattle.scheduler.proofs.RowPlaces.{row-read}
 use Rattle.scheduler.proofs.rows.row_of.Statement.{statement}
 use Rattle.scheduler.proofs.rows.row_of.Tie as tie
-use Rattle.scheduler.proofs.rows.row_of.Reads as reads
-use Rattle.scheduler.proofs.rows.row_of.Lts as lts
-use Rattle.demand.proofs.readable.head.Reads as head-reads
 
 mul-at : tie.Need-mul-at
 mul-at c = search needs

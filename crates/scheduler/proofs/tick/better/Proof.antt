@@ -1,7 +1,5 @@
 use Rattle.scheduler.proofs.tick.better.Statement.{statement}
 use Rattle.scheduler.proofs.tick.better.Tie as tie
-use Rattle.scheduler.proofs.tick.better.Reads as reads
-use Rattle.scheduler.proofs.tick.better.Lts as lts
 
 returns : tie.Need-returns
 returns c = simp (c .if1 .taken)

@@ -1,9 +1,6 @@
 use borrow.Author.Needs.{needs}
 use Rattle.scheduler.proofs.tick.closed.Statement.{statement}
 use Rattle.scheduler.proofs.tick.closed.Tie as tie
-use Rattle.scheduler.proofs.tick.closed.Reads as reads
-use Rattle.scheduler.proofs.tick.closed.Lts as lts
-use Rattle.scheduler.proofs.tick.is_task.Reads as is-task-reads
 
 is-task-requires : tie.Need-is-task-requires
 is-task-requires c κs = search needs

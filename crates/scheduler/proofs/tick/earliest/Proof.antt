@@ -1,15 +1,12 @@
 use mathlib.Core.Path.{_≡_, sym}
+use borrow.Author.Needs.{needs}
 use Prim.Native.Nat.{_≤_, _-_}
 use Rattle.scheduler.specs.Scans.{at}
 use Rattle.scheduler.specs.Tick.{earliest}
-use Rattle.scheduler.proofs.Scan.{at-end}
 use Rattle.scheduler.proofs.Earliest.{earliest-zero, earliest-next}
-use borrow.Author.Needs.{needs}
+use Rattle.scheduler.proofs.Scan.{at-end}
 use Rattle.scheduler.proofs.tick.earliest.Statement.{statement}
 use Rattle.scheduler.proofs.tick.earliest.Tie as tie
-use Rattle.scheduler.proofs.tick.earliest.Reads as reads
-use Rattle.scheduler.proofs.tick.earliest.Lts as lts
-use Rattle.scheduler.proofs.tick.better.Reads as better-reads
 
 abbrev Inv-loop : tie.InvT-loop
 Inv-loop keys owed n best₀ k₀ best k = (k ≤ n) × (best ≡ earliest (at keys) owed k)

@@ -1,16 +1,13 @@
 use mathlib.Core.Bool.{false}
-use mathlib.Core.Path.{_≡_, sym, _∙_}
-use Prim.Native.Nat.{_≤_, _-_}
+use mathlib.Core.Path.{_≡_, sym}
+use borrow.Author.Needs.{needs}
 use borrow.Author.Tests.{lt-ltb, le-ltb}
+use Prim.Native.Nat.{_≤_, _-_}
 use Rattle.scheduler.specs.Scans.{any}
 use Rattle.scheduler.specs.Tick.{owedAt, goesTo}
 use Rattle.scheduler.proofs.Scan.{any-zero, any-skip, first-none, first-here, at-end}
-use borrow.Author.Needs.{needs}
 use Rattle.scheduler.proofs.tick.goes_to.Statement.{statement}
 use Rattle.scheduler.proofs.tick.goes_to.Tie as tie
-use Rattle.scheduler.proofs.tick.goes_to.Reads as reads
-use Rattle.scheduler.proofs.tick.goes_to.Lts as lts
-use Rattle.scheduler.proofs.tick.earliest.Reads as earliest-reads
 
 abbrev Inv-loop : tie.InvT-loop
 Inv-loop keys owed n m i₀ i = (i ≤ m) × (any (owedAt owed n) i ≡ false)

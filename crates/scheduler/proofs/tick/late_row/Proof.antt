@@ -1,14 +1,12 @@
 use mathlib.Core.Bool.{false}
 use mathlib.Core.Path.{_≡_, sym}
+use borrow.Author.Needs.{needs}
 use Prim.Native.Nat.{_≤_, _-_}
 use Rattle.scheduler.specs.Scans.{at, any}
 use Rattle.scheduler.specs.Tick.{isLate, lateRow}
 use Rattle.scheduler.proofs.Scan.{any-zero, any-skip, first-none, first-here, at-end}
-use borrow.Author.Needs.{needs}
 use Rattle.scheduler.proofs.tick.late_row.Statement.{statement}
 use Rattle.scheduler.proofs.tick.late_row.Tie as tie
-use Rattle.scheduler.proofs.tick.late_row.Reads as reads
-use Rattle.scheduler.proofs.tick.late_row.Lts as lts
 
 abbrev Inv-loop : tie.InvT-loop
 Inv-loop due owed n clock k₀ k = (k ≤ n) × (any (isLate clock (at due) owed) k ≡ false)

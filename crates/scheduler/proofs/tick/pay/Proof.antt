@@ -1,14 +1,10 @@
-use Rattle.scheduler.proofs.Goes.{handler-pays, task-pays}
-use mathlib.Core.Path.{_≡_, sym, ap}
+use mathlib.Core.Path.{sym, ap}
 use native.Mathlib.Omega.{arith}
-use Prim.Native.Nat.{_+_, _<_}
-use lib.ListN.{getD}
-use Rattle.scheduler.specs.Tick.{paid, Payable}
 use borrow.Author.Needs.{needs}
+use Rattle.scheduler.specs.Tick.{paid}
+use Rattle.scheduler.proofs.Goes.{handler-pays, task-pays}
 use Rattle.scheduler.proofs.tick.pay.Statement.{statement}
 use Rattle.scheduler.proofs.tick.pay.Tie as tie
-use Rattle.scheduler.proofs.tick.pay.Reads as reads
-use Rattle.scheduler.proofs.tick.pay.Lts as lts
 
 enum-known-ran : tie.Need-enum-known-ran
 enum-known-ran c = search needs

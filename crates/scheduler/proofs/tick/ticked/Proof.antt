@@ -1,21 +1,11 @@
 use mathlib.Core.Path.{_∙_}
-use mathlib.Core.Path.{_≡_, sym, subst}
 use native.Mathlib.Omega.{arith}
 use Rattle.scheduler.proofs.Answers.{passed}
 use Rattle.scheduler.proofs.Clauses.{clauses, clauses-fit, clauses-clock, clauses-owed}
 use Rattle.scheduler.proofs.Goes.{goes-to, goes-pays}
 use Rattle.scheduler.proofs.Ticks.{tick-made}
-use borrow.Author.Needs.{needs}
 use Rattle.scheduler.proofs.tick.ticked.Statement.{statement}
 use Rattle.scheduler.proofs.tick.ticked.Tie as tie
-use Rattle.scheduler.proofs.tick.ticked.Reads as reads
-use Rattle.scheduler.proofs.tick.ticked.Lts as lts
-use Rattle.scheduler.proofs.arrivals.add_work.Reads as add-work-reads
-use Rattle.scheduler.proofs.arrivals.move_next.Reads as move-next-reads
-use Rattle.scheduler.proofs.tick.closed.Reads as closed-reads
-use Rattle.scheduler.proofs.tick.goes_to.Reads as goes-to-reads
-use Rattle.scheduler.proofs.tick.late_row.Reads as late-row-reads
-use Rattle.scheduler.proofs.tick.pay.Reads as pay-reads
 
 move-next-requires : tie.Need-move-next-requires
 move-next-requires c κs =
@@ -31,22 +21,41 @@ add-work-requires c κs =
     (omega (arith, p .count, fit .tasks, fit .handlers), λ k l. clauses-owed _ b k (omega (arith, p .count)))
 
 goes-to-requires : tie.Need-goes-to-requires
-goes-to-requires c κs = let fit = clauses-fit _ (clauses _ (passed _ _ (c .before .before .before .before .before .before .before .before .before .before .before .before .pre) .in-bounds)) in (fit .tasks, fit .handlers)
+goes-to-requires c κs =
+    let fit = clauses-fit _ (clauses _ (passed _ _ (c .before .before .before .before .before .before .before .before .before .before .before .before .pre) .in-bounds)) in
+    (fit .tasks, fit .handlers)
 
 pay-requires : tie.Need-pay-requires
-pay-requires c κs = let fit = clauses-fit _ (clauses _ (passed _ _ (c .before .before .before .before .before .before .before .before .before .before .before .before .before .before .pre) .in-bounds)) in (fit .tasks, goes-pays _ _ _ _ (fit .tasks) (fit .handlers) _ (c .before .goes-to .ensures))
+pay-requires c κs =
+    let fit = clauses-fit _ (clauses _ (passed _ _ (c .before .before .before .before .before .before .before .before .before .before .before .before .before .before .pre) .in-bounds)) in
+    (fit .tasks, goes-pays _ _ _ _ (fit .tasks) (fit .handlers) _ (c .before .goes-to .ensures))
 
 add-late-row : tie.Need-add-late-row
 add-late-row c = omega (arith, passed _ _ (c .before .before .before .before .before .before .before .before .before .before .before .before .before .before .before .before .before .pre) .soon)
 
 late-row-requires : tie.Need-late-row-requires
-late-row-requires c κs = clauses-fit _ (clauses _ (passed _ _ (c .before .before .before .before .before .before .before .before .before .before .before .before .before .before .before .before .before .pre) .in-bounds)) .tasks
+late-row-requires c κs =
+    clauses-fit _ (clauses _ (passed _ _ (c .before .before .before .before .before .before .before .before .before .before .before .before .before .before .before .before .before .pre) .in-bounds)) .tasks
 
 closed-requires : tie.Need-closed-requires
 closed-requires c κs = passed _ _ (c .before .before .before .before .before .before .before .before .before .before .before .before .before .before .before .before .before .before .pre) .soon
 
 returns : tie.Need-returns
-returns c = c .closed .ensures ∙ tick-made _ _ _ _ _ _ _ (passed _ _ (c .before .before .before .before .before .before .before .before .before .before .before .before .before .before .before .before .before .before .before .pre) .count) (c .before .before .before .before .before .before .before .before .before .before .before .move-next .ensures) (c .before .before .before .before .before .before .before .before .before .add-work .ensures) (c .before .before .before .before .before .before .goes-to .ensures) (c .before .before .before .before .pay .ensures) (c .before .late-row .ensures)
+returns c =
+    let late = c .before in
+    let pays = late .before .before .before in
+    let ran = pays .before .before in
+    let adds = ran .before .before .before in
+    let moves = adds .before .before in
+    let start = moves .before .before .before .before .before .before .before .before in
+    c .closed .ensures
+    ∙ tick-made _ _ _ _ _ _ _
+    (passed _ _ (start .pre) .count)
+    (moves .move-next .ensures)
+    (adds .add-work .ensures)
+    (ran .goes-to .ensures)
+    (pays .pay .ensures)
+    (late .late-row .ensures)
 
 pub ticked-spec : {M : Type 1} → statement M
 ticked-spec =
