@@ -24,4 +24,5 @@ pub mod InBounds
 pub mod Sums
 pub mod Balanced
 pub mod Ruled
+pub mod Views
 pub mod Examples

@@ -10,3 +10,4 @@ pub mod Start
 pub mod Reached
 pub mod Books
 pub mod Rule
+pub mod View

@@ -6,7 +6,8 @@
 --   paid owed n ran           == work owed after the tick of ran; Payable: ran is a row and is owed work
 --   isLate, lateRow           == a task is owed work at its deadline; the first such row
 --   isTask late               == a row is named
---   closed, served, given     == the run and the answer after the tick: the clock and who is late; what ran; who runs
+--   closed, ended             == the run one tick on and the answer, where it is known whether it is over; where it is known who is late
+--   served, given             == the same, where it is known who ran; where it is known what rows have after the arrivals
 --   tickedBy key r ws         == all of it, with the arrivals ws, where of the tasks owed work the one with the smallest key runs
 use mathlib.Core.Bool.{Bool, true, false, not, _&&_, _||_}
 use mathlib.Core.List.{List}
@@ -112,15 +113,18 @@ isTask (late.Task i) = true
 
 -- ---- the whole tick: the clock moves on by 1 between the two
 
-abbrev pub closed : Run → List ℕ → List ℕ → Ran → Late → Stepped
-closed r next owed ran late = record {
-  run = runOf (r .tasks) (r .handlers) (r .«task_count») (r .«handler_count») (r .clock + 1) next owed (isTask late) late;
+abbrev pub closed : Run → List ℕ → List ℕ → Ran → Bool → Late → Stepped
+closed r next owed ran over late = record {
+  run = runOf (r .tasks) (r .handlers) (r .«task_count») (r .«handler_count») (r .clock + 1) next owed over late;
   answer = Ticked ran late;
 }
 
+abbrev pub ended : Run → List ℕ → List ℕ → Ran → Late → Stepped
+ended r next owed ran late = closed r next owed ran (isTask late) late
+
 -- What is left of the tick once it is known to whom it goes.
 abbrev pub served : Run → List ℕ → List ℕ → Ran → Stepped
-served r next owed ran = closed r next (paid owed (r .«task_count») ran) ran (lateRow (r .clock + 1) (dueWith r next) (paid owed (r .«task_count») ran) (r .«task_count»))
+served r next owed ran = ended r next (paid owed (r .«task_count») ran) ran (lateRow (r .clock + 1) (dueWith r next) (paid owed (r .«task_count») ran) (r .«task_count»))
 
 abbrev pub keyWith : (Live → ℕ) → Run → List ℕ → List ℕ → ℕ → ℕ
 keyWith key r next owed k = key (record { row = rowIn r k; next = getD next k 0; owed = getD owed k 0 })

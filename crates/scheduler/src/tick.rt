@@ -119,14 +119,13 @@ pub fn is_task(late: Late) -> bool
     }
 }
 
-// The run one tick on, over where a task is late.
-fn closed(run: Run, next: [u64; 80], owed: [u64; 80], ran: Ran, late: Late) -> Stepped
+// The run one tick on, and the answer.
+fn closed(run: Run, next: [u64; 80], owed: [u64; 80], ran: Ran, over: bool, late: Late) -> Stepped
     requires { ⌜ run .clock < 1000000000 ⌝ }
-    ensures { λ r. ⌜ r ≡ closed run next owed ran late ⌝ }
+    ensures { λ r. ⌜ r ≡ closed run next owed ran over late ⌝ }
 {
     let tasks = run.tasks;
     let handlers = run.handlers;
-    let over = is_task(late);
     let after = Run {
         tasks,
         handlers,
@@ -159,5 +158,5 @@ pub fn ticked(run: Run, arrivals: &[u32]) -> Stepped
     let ran = goes_to(&next, &owed, n, m);
     pay(&mut owed, n, ran);
     let late = late_row(&next, &owed, n, clock + 1);
-    closed(run, next, owed, ran, late)
+    closed(run, next, owed, ran, is_task(late), late)
 }

@@ -1,5 +1,6 @@
 use mathlib.Core.Path.{_∙_}
 use native.Mathlib.Omega.{arith}
+use borrow.Author.Needs.{needs}
 use Rattle.scheduler.proofs.Answers.{passed}
 use Rattle.scheduler.proofs.Clauses.{clauses, clauses-fit, clauses-clock, clauses-owed}
 use Rattle.scheduler.proofs.Goes.{goes-to, goes-pays}
@@ -37,25 +38,29 @@ late-row-requires : tie.Need-late-row-requires
 late-row-requires c κs =
     clauses-fit _ (clauses _ (passed _ _ (c .before .before .before .before .before .before .before .before .before .before .before .before .before .before .before .before .before .pre) .in-bounds)) .tasks
 
+is-task-requires : tie.Need-is-task-requires
+is-task-requires c κs = search needs
+
 closed-requires : tie.Need-closed-requires
-closed-requires c κs = passed _ _ (c .before .before .before .before .before .before .before .before .before .before .before .before .before .before .before .before .before .before .pre) .soon
+closed-requires c κs = passed _ _ (c .before .before .before .before .before .before .before .before .before .before .before .before .before .before .before .before .before .before .before .pre) .soon
 
 returns : tie.Need-returns
 returns c =
-    let late = c .before in
+    let late = c .before .before in
     let pays = late .before .before .before in
     let ran = pays .before .before in
     let adds = ran .before .before .before in
     let moves = adds .before .before in
     let start = moves .before .before .before .before .before .before .before .before in
     c .closed .ensures
-    ∙ tick-made _ _ _ _ _ _ _
+    ∙ tick-made _ _ _ _ _ _ _ _
     (passed _ _ (start .pre) .count)
     (moves .move-next .ensures)
     (adds .add-work .ensures)
     (ran .goes-to .ensures)
     (pays .pay .ensures)
     (late .late-row .ensures)
+    (c .before .is-task .ensures)
 
 pub ticked-spec : {M : Type 1} → statement M
 ticked-spec =
@@ -67,5 +72,6 @@ ticked-spec =
     pay-requires
     add-late-row
     late-row-requires
+    is-task-requires
     closed-requires
     returns)
