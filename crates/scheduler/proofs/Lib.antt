@@ -24,5 +24,4 @@ pub mod InBounds
 pub mod Sums
 pub mod Balanced
 pub mod Ruled
-pub mod Views
 pub mod Examples

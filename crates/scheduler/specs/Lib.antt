@@ -10,4 +10,3 @@ pub mod Start
 pub mod Reached
 pub mod Books
 pub mod Rule
-pub mod View

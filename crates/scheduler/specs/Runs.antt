@@ -4,14 +4,15 @@
 --   rowIn r k           == the row at place k of run r
 --   rowCount r          == how many rows it has
 --   dueIn r k           == the deadline of the last job of the task at place k; dueWith r next k, where next arrivals are those of `next`
+--   taskRows r, handlerRows r == the rows of its table
 --   Fitting n m         n tasks and m handlers are no more than a run has places for
 --   Shaped r            its arrays have their lengths, as those of every run that a program holds
 use mathlib.Core.Bool.{Bool}
 use mathlib.Core.List.{List}
 use mathlib.Core.Path.{_≡_}
-use Prim.Native.Nat.{ℕ, _+_, _-_, _≤_}
+use Prim.Native.Nat.{ℕ, _+_, _-_, _*_, _≤_}
 use lib.Dec.{ltb}
-use lib.ListN.{length, getD}
+use lib.ListN.{length, getD, take}
 use Rattle.demand.specs.Limits.{tasksMost, handlersMost}
 use Rattle.demand.specs.Rows.{Row, rowsOf, rowAt}
 use Rattle.demand.specs.Tests.{pick}
@@ -46,6 +47,13 @@ dueWith r next k = dueBy (rowIn r k) (getD next k 0)
 
 abbrev pub dueIn : Run → ℕ → ℕ
 dueIn r k = dueWith r (r .next) k
+
+-- Two numbers a row.
+unfoldable pub taskRows : Run → List Row
+taskRows r = rowsOf (take (2 * r .«task_count») (r .tasks))
+
+unfoldable pub handlerRows : Run → List Row
+handlerRows r = rowsOf (take (2 * r .«handler_count») (r .handlers))
 
 pub record Fitting (n m : ℕ) : Type 0 where
   pub tasks : n ≤ tasksMost
