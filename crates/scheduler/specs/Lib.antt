@@ -9,3 +9,4 @@ pub mod Steps
 pub mod Start
 pub mod Reached
 pub mod Books
+pub mod Guarantees
