@@ -23,4 +23,6 @@ pub mod FreshBounds
 pub mod InBounds
 pub mod Sums
 pub mod Balanced
+pub mod Parts
+pub mod FlatFacts
 pub mod Examples

@@ -9,4 +9,5 @@ pub mod Steps
 pub mod Start
 pub mod Reached
 pub mod Books
+pub mod View
 pub mod Guarantees
