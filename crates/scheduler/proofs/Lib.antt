@@ -25,4 +25,5 @@ pub mod Sums
 pub mod Balanced
 pub mod Parts
 pub mod FlatFacts
+pub mod View
 pub mod Examples
