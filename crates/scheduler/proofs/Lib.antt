@@ -26,4 +26,5 @@ pub mod Balanced
 pub mod Parts
 pub mod FlatFacts
 pub mod View
+pub mod LegalArrivals
 pub mod Examples

@@ -47,11 +47,12 @@ pub record LegalArrival (r : Run) (k w : ℕ) : Type 0 where
   pub in-cost : w ≤ rowIn r k .cost
 
 -- Of a run in bounds that is not over, before the last clock: a list is accepted exactly if it has a number for each row and each is legal;
--- and an accepted arrival makes the row's next legal tick a period later than the clock, so that arrivals are at least a period apart.
+-- and an accepted arrival makes the row's next legal tick a period later than the clock, where it stays without one, so that arrivals are at least a period apart.
 pub record LegalArrivals (r : Run) (ws : List ℕ) : Type 0 where
   pub count : Accepted r ws → length ws ≡ rowCount r
   pub legal : Accepted r ws → (k : ℕ) → k < rowCount r → LegalArrival r k (getD ws k 0)
   pub apart : Accepted r ws → (k : ℕ) → k < rowCount r → 0 < getD ws k 0 → getD (stepOf r ws .run .next) k 0 ≡ r .clock + rowIn r k .period
+  pub waits : Accepted r ws → (k : ℕ) → k < rowCount r → getD ws k 0 ≡ 0 → getD (stepOf r ws .run .next) k 0 ≡ getD (r .next) k 0
   pub accepted : length ws ≡ rowCount r → ((k : ℕ) → k < rowCount r → LegalArrival r k (getD ws k 0)) → Accepted r ws
 
 abbrev pub NeverLate : Type 0
