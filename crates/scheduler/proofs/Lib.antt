@@ -27,4 +27,5 @@ pub mod Parts
 pub mod FlatFacts
 pub mod View
 pub mod LegalArrivals
+pub mod ViewArrives
 pub mod Examples
