@@ -28,4 +28,5 @@ pub mod FlatFacts
 pub mod View
 pub mod LegalArrivals
 pub mod ViewArrives
+pub mod ViewServes
 pub mod Examples
