@@ -29,4 +29,6 @@ pub mod View
 pub mod LegalArrivals
 pub mod ViewArrives
 pub mod ViewServes
+pub mod ViewLate
+pub mod Joined
 pub mod Examples
