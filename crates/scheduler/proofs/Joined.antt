@@ -1,26 +1,41 @@
 -- A step is a tick of the machine: an accepted one makes of a run's state what the machine makes of it, and the run is over exactly where that is not on time.
+--   Told key r ws   the step of run r with arrivals ws is accepted, or changes nothing
 use mathlib.Core.Bool.{Bool, true, false}
 use mathlib.Core.List.{List}
+use mathlib.Core.Logic.{_⊎_, inl, inr}
 use mathlib.Core.Path.{_≡_, refl, sym, ap, ap₂, _∙_}
-use Prim.Native.Nat.{ℕ, _+_}
+use native.Mathlib.Nat.{eq-zero-or-pos}
+use native.Mathlib.Omega.{arith}
+use Prim.Native.Nat.{ℕ, _+_, _<_}
 use Rattle.scheduler.specs.Guarantees.{Accepted}
 use Rattle.scheduler.specs.Machine.{Live, State, owedAll, pick, givenBy, tickBy, OnTime}
 use Rattle.scheduler.specs.Reached.{Sound}
 use Rattle.scheduler.specs.Runs.{dueIn, taskRows, handlerRows}
-use Rattle.scheduler.specs.Steps.{stepBy}
+use Rattle.scheduler.specs.Steps.{stepRefusal, stepBy}
 use Rattle.scheduler.specs.Tick.{keyWith, goesTo, lateRow, isTask, tickedBy}
 use Rattle.scheduler.specs.View.{seen, viewOf, offerOf}
 use Rattle.scheduler.specs.declared.Ran.{Ran}
 use Rattle.scheduler.specs.declared.Run.{Run}
 use Rattle.scheduler.specs.declared.Stepped.{Stepped}
-use Rattle.scheduler.proofs.Answers.{Passed, passed, step-ticks}
+use Rattle.scheduler.proofs.Answers.{Passed, passed, step-ticks, step-refused}
 use Rattle.scheduler.proofs.Goes.{goes-to}
-use Rattle.scheduler.proofs.InBounds.{Outcome, outcome, step-in-bounds}
-use Rattle.scheduler.proofs.InBounds.Outcome.{stays, goes}
+use Rattle.scheduler.proofs.InBounds.{step-in-bounds}
 use Rattle.scheduler.proofs.KeepsBounds.{nextNow, owedNow, owed-length}
 use Rattle.scheduler.proofs.ViewArrives.{next-length, tasks-arrive, handlers-arrive}
 use Rattle.scheduler.proofs.ViewLate.{named-not-on-time, nobody-on-time}
 use Rattle.scheduler.proofs.ViewServes.{goes-view}
+
+-- A step is accepted, or changes nothing.
+pub data Told (key : Live → ℕ) (r : Run) (ws : List ℕ) : Type 0 where
+  accepted : Accepted r ws → Told key r ws
+  unchanged : stepBy key r ws .run ≡ r → Told key r ws
+
+pub told : (key : Live → ℕ) (r : Run) (ws : List ℕ) → Told key r ws
+told key r ws = go (eq-zero-or-pos (stepRefusal r ws))
+  where
+    go : (stepRefusal r ws ≡ 0) ⊎ (0 < stepRefusal r ws) → Told key r ws
+    go (inl none) = accepted none
+    go (inr some) = unchanged (ap (λ (x : Stepped). x .run) (step-refused key r ws (stepRefusal r ws) refl (λ none. omega arith)))
 
 module _ (key : Live → ℕ) (r : Run) (ws : List ℕ) where
   -- The tick, seen.
@@ -37,19 +52,19 @@ module _ (key : Live → ℕ) (r : Run) (ws : List ℕ) where
   -- The table stays, of a refused step too.
   pub step-tasks : taskRows (stepBy key r ws .run) ≡ taskRows r
   unfolding tickedBy taskRows
-  step-tasks = go (outcome key r ws)
+  step-tasks = go (told key r ws)
     where
-      go : Outcome key r ws → taskRows (stepBy key r ws .run) ≡ taskRows r
-      go (stays k e) = ap (λ (x : Stepped). taskRows (x .run)) e
-      go (goes p e) = ap (λ (x : Stepped). taskRows (x .run)) e
+      go : Told key r ws → taskRows (stepBy key r ws .run) ≡ taskRows r
+      go (accepted a) = ap (λ (x : Stepped). taskRows (x .run)) (step-ticks key r ws a)
+      go (unchanged e) = ap taskRows e
 
   pub step-handlers : handlerRows (stepBy key r ws .run) ≡ handlerRows r
   unfolding tickedBy handlerRows
-  step-handlers = go (outcome key r ws)
+  step-handlers = go (told key r ws)
     where
-      go : Outcome key r ws → handlerRows (stepBy key r ws .run) ≡ handlerRows r
-      go (stays k e) = ap (λ (x : Stepped). handlerRows (x .run)) e
-      go (goes p e) = ap (λ (x : Stepped). handlerRows (x .run)) e
+      go : Told key r ws → handlerRows (stepBy key r ws .run) ≡ handlerRows r
+      go (accepted a) = ap (λ (x : Stepped). handlerRows (x .run)) (step-ticks key r ws a)
+      go (unchanged e) = ap handlerRows e
 
   module _ (s : Sound r) (a : Accepted r ws) where
     abbrev after : Run

@@ -31,4 +31,6 @@ pub mod ViewArrives
 pub mod ViewServes
 pub mod ViewLate
 pub mod Joined
+pub mod FreshView
+pub mod NeverLate
 pub mod Examples
