@@ -33,4 +33,6 @@ pub mod ViewLate
 pub mod Joined
 pub mod FreshView
 pub mod NeverLate
+pub mod Named
+pub mod NoScheduler
 pub mod Examples
