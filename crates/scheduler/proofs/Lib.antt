@@ -35,4 +35,5 @@ pub mod FreshView
 pub mod NeverLate
 pub mod Named
 pub mod NoScheduler
+pub mod SyncRun
 pub mod Examples
