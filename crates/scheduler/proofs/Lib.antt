@@ -36,4 +36,5 @@ pub mod NeverLate
 pub mod Named
 pub mod NoScheduler
 pub mod SyncRun
+pub mod LateExactly
 pub mod Examples
