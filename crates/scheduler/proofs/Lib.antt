@@ -37,4 +37,5 @@ pub mod Named
 pub mod NoScheduler
 pub mod SyncRun
 pub mod LateExactly
+pub mod OurRun
 pub mod Examples

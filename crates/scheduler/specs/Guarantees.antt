@@ -7,13 +7,15 @@
 --   NeverLate              after a yes no run from fresh is ever over, whatever is offered and however often it is refused
 --   LateExactly            after a no the synchronous run is accepted at every tick below the named interval, over at its end and not before
 --   NoScheduler            after a no no schedule that puts handlers first meets every deadline up to the end of the named interval
---   OursIsOne              our scheduler's synchronous run is such a schedule as long as it is on time
+--   OursIsOne              after a no our scheduler's synchronous run is such a schedule, and meets every deadline before
+--   OurRun                 the synchronous run of `fresh` and `step` is our scheduler's, and such a schedule, for as long as it is not over; of any table, after a yes too
 --   Optimal                if some schedule that puts handlers first meets every deadline for ever, the verdict is a yes
 use mathlib.Core.Bool.{true, false}
 use mathlib.Core.List.{List, [], _∷_, _++_}
 use mathlib.Core.Path.{_≡_}
 use Prim.Native.Nat.{ℕ, zero, suc, _+_, _≤_, _<_}
 use lib.ListN.{length, getD}
+use Rattle.demand.specs.Limits.{ticksMost}
 use Rattle.demand.specs.Rows.{tasksOf, handlersOf}
 use Rattle.verdict.specs.Promise.{Figures, Word, figures, VerdictSays, verdictRefusal}
 use Rattle.verdict.specs.Promise.Word.{fits, misses}
@@ -25,8 +27,9 @@ use Rattle.scheduler.specs.Schedules.{beats, Timely, sync}
 use Rattle.scheduler.specs.Start.{freshOf}
 use Rattle.scheduler.specs.Steps.{stepRefusal, stepOf}
 use Rattle.scheduler.specs.Tick.{lateRow}
-use Rattle.scheduler.specs.declared.Late.the-variants as late
+use Rattle.scheduler.specs.View.{viewOf}
 use Rattle.scheduler.specs.declared.Run.{Run}
+use Rattle.scheduler.specs.declared.Start.the-variants.{Ready}
 
 abbrev pub Accepted : Run → List ℕ → Type 0
 Accepted r ws = stepRefusal r ws ≡ 0
@@ -80,6 +83,14 @@ abbrev pub OursIsOne : Type 0
 OursIsOne =
     (t h : List ℕ) (r : verdict.Answer) → VerdictSays t h r → figures r .word ≡ misses
     → (n : ℕ) → n < figures r .interval → Timely (tasksOf t) (handlersOf h) n (sync n (tasksOf t) (handlersOf h) .tasks) (sync n (tasksOf t) (handlersOf h) .handlers)
+
+-- The run after n ticks is seen as our scheduler's state, to which it comes on time.
+pub record Ours (t h : List ℕ) (n : ℕ) : Type 0 where
+  pub view : viewOf (syncRun t h n) ≡ sync n (tasksOf t) (handlersOf h)
+  pub timely : Timely (tasksOf t) (handlersOf h) n (viewOf (syncRun t h n) .tasks) (viewOf (syncRun t h n) .handlers)
+
+abbrev pub OurRun : Type 0
+OurRun = (t h : List ℕ) → freshOf t h .answer ≡ Ready → (n : ℕ) → n ≤ ticksMost → syncRun t h n .over ≡ false → Ours t h n
 
 -- some schedule meets every deadline up to clock n
 pub record Met (t h : List ℕ) (n : ℕ) : Type 0 where
