@@ -38,4 +38,5 @@ pub mod NoScheduler
 pub mod SyncRun
 pub mod LateExactly
 pub mod OurRun
+pub mod Instances
 pub mod Examples
