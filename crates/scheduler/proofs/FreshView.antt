@@ -1,14 +1,14 @@
 -- A fresh run is sound, not over, and seen as the machine's fresh state.
 use mathlib.Core.Bool.{false}
 use mathlib.Core.List.{List}
-use mathlib.Core.Path.{_≡_, refl, sym, ap, _∙_}
+use mathlib.Core.Path.{_≡_, refl, ap, _∙_}
 use native.Mathlib.Omega.{arith}
 use Prim.Native.Nat.{ℕ, _+_, _-_, _*_, _<_}
 use lib.ListN.{length, getD, replicate}
 use lib.Seq.{take-at}
 use Rattle.demand.specs.Refusals.{tableRefusal}
 use Rattle.demand.specs.Rows.{Row, rowsOf, tasksOf, handlersOf}
-use Rattle.scheduler.specs.Machine.{State, idle, freshState}
+use Rattle.scheduler.specs.Machine.{idle, freshState}
 use Rattle.scheduler.specs.Places.{liveOf}
 use Rattle.scheduler.specs.Reached.{Sound}
 use Rattle.scheduler.specs.Runs.{taskRows, handlerRows}
@@ -19,7 +19,7 @@ use Rattle.scheduler.specs.declared.Run.{Run}
 use Rattle.scheduler.proofs.FlatFacts.{flat-idle}
 use Rattle.scheduler.proofs.FreshBounds.{zeros-at, fresh-bounds, fresh-shape}
 use Rattle.scheduler.proofs.Parts.{part-at}
-use Rattle.scheduler.proofs.Tables.{Whole, whole, fresh-ready}
+use Rattle.scheduler.proofs.Tables.{whole, fresh-ready}
 use Rattle.scheduler.proofs.View.{Rows, rows-fit, task-rows, handler-rows}
 
 module _ (t h : List ℕ) (e : tableRefusal t h ≡ 0) where

@@ -3,13 +3,13 @@ use mathlib.Core.Bool.{true, false}
 use mathlib.Core.List.{List, [], _∷_}
 use mathlib.Core.Path.{_≡_, refl, sym, _∙_}
 use native.Mathlib.Omega.{arith}
-use Prim.Native.Nat.{ℕ, _≤_, _<_}
+use Prim.Native.Nat.{ℕ}
 use Rattle.demand.specs.Refusals.{tableRefusal, tableThen}
 use Rattle.demand.specs.Rows.{rowsOf, some, tasksOf, handlersOf}
 use Rattle.verdict.proofs.Cases.{cases-hold}
 use Rattle.verdict.proofs.UnderLess.{says-fits}
 use Rattle.verdict.specs.Cases.{cases}
-use Rattle.verdict.specs.Promise.{figures, SaysFits, VerdictSays, verdictRefusal}
+use Rattle.verdict.specs.Promise.{figures, SaysFits, VerdictSays}
 use Rattle.verdict.specs.Promise.Word.{fits, misses}
 use Rattle.verdict.specs.declared.Answer.{Answer}
 use Rattle.verdict.specs.declared.Answer.the-variants as verdict

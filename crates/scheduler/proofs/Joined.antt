@@ -6,14 +6,14 @@ use mathlib.Core.Logic.{_⊎_, inl, inr}
 use mathlib.Core.Path.{_≡_, refl, sym, ap, ap₂, _∙_}
 use native.Mathlib.Nat.{eq-zero-or-pos}
 use native.Mathlib.Omega.{arith}
-use Prim.Native.Nat.{ℕ, _+_, _<_}
+use Prim.Native.Nat.{ℕ, _<_}
 use Rattle.scheduler.specs.Guarantees.{Accepted}
-use Rattle.scheduler.specs.Machine.{Live, State, owedAll, pick, givenBy, tickBy, OnTime}
+use Rattle.scheduler.specs.Machine.{Live, owedAll, pick, givenBy, tickBy, OnTime}
 use Rattle.scheduler.specs.Reached.{Sound}
 use Rattle.scheduler.specs.Runs.{dueIn, taskRows, handlerRows}
 use Rattle.scheduler.specs.Steps.{stepRefusal, stepBy}
 use Rattle.scheduler.specs.Tick.{keyWith, goesTo, lateRow, isTask, tickedBy}
-use Rattle.scheduler.specs.View.{seen, viewOf, offerOf}
+use Rattle.scheduler.specs.View.{viewOf, offerOf}
 use Rattle.scheduler.specs.declared.Ran.{Ran}
 use Rattle.scheduler.specs.declared.Run.{Run}
 use Rattle.scheduler.specs.declared.Stepped.{Stepped}

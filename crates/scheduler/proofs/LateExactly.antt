@@ -16,7 +16,6 @@ use Rattle.scheduler.specs.Machine.{State, dueOf, pick, OnTime}
 use Rattle.scheduler.specs.Reached.{offeredBy}
 use Rattle.scheduler.specs.Runs.{dueIn}
 use Rattle.scheduler.specs.Schedules.{sync}
-use Rattle.scheduler.specs.Start.{freshOf}
 use Rattle.scheduler.specs.Steps.{stepOf}
 use Rattle.scheduler.specs.Tick.{lateRow}
 use Rattle.scheduler.specs.View.{viewOf}

@@ -8,12 +8,10 @@ use Prim.Native.Nat.{ℕ, _+_, _≤_, _<_}
 use lib.Dec.{ltb, eqb}
 use lib.ListN.{length, getD}
 use Rattle.demand.specs.Limits.{ticksMost}
-use Rattle.demand.specs.Rows.{Row}
 use Rattle.scheduler.specs.Guarantees.{Accepted, LegalArrival, LegalArrivals}
-use Rattle.scheduler.specs.Machine.{Live, dueOf}
+use Rattle.scheduler.specs.Machine.{dueOf}
 use Rattle.scheduler.specs.Reached.{Sound}
 use Rattle.scheduler.specs.Runs.{rowIn, rowCount, Shaped}
-use Rattle.scheduler.specs.Scans.{any}
 use Rattle.scheduler.specs.Steps.{early, heavy, stepBy}
 use Rattle.scheduler.specs.Tick.{tickedBy}
 use Rattle.scheduler.specs.declared.Run.{Run}

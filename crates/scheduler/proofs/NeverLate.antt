@@ -2,10 +2,9 @@
 --   Sure r   run r is sound, not over, and keeps the forward invariant at every length
 use mathlib.Core.Bool.{false}
 use mathlib.Core.List.{List, [], _∷_}
-use mathlib.Core.Path.{_≡_, refl, sym, ap, subst, _∙_}
-use native.Mathlib.Nat.{eq-zero-or-pos}
+use mathlib.Core.Path.{_≡_, sym, ap, subst, _∙_}
 use native.Mathlib.Omega.{arith}
-use Prim.Native.Nat.{ℕ, suc, _≤_, _<_}
+use Prim.Native.Nat.{ℕ, suc, _≤_}
 use Rattle.demand.proofs.Sizes.{tasks-valid, handlers-positive}
 use Rattle.demand.specs.Demands.{Passes}
 use Rattle.demand.specs.Refusals.{tableRefusal}
@@ -14,13 +13,12 @@ use Rattle.verdict.proofs.Readable.{readable-table}
 use Rattle.verdict.proofs.UnderLess.{says-fits}
 use Rattle.verdict.specs.Promise.{figures, SaysFits, VerdictSays, AlwaysPasses}
 use Rattle.scheduler.specs.Guarantees.{NeverLate}
-use Rattle.scheduler.specs.Machine.{dueOf, State, pick, tickBy}
+use Rattle.scheduler.specs.Machine.{dueOf}
 use Rattle.scheduler.specs.Reached.{offeredBy, offered, Sound}
-use Rattle.scheduler.specs.Start.{freshOf, freshRun}
+use Rattle.scheduler.specs.Start.{freshRun}
 use Rattle.scheduler.specs.Steps.{stepBy}
 use Rattle.scheduler.specs.View.{viewOf, offerOf}
 use Rattle.scheduler.specs.declared.Run.{Run}
-use Rattle.scheduler.specs.declared.Stepped.{Stepped}
 use Rattle.scheduler.proofs.Answers.{passed}
 use Rattle.scheduler.proofs.FreshView.{fresh-run, fresh-sound, fresh-going, fresh-view}
 use Rattle.scheduler.proofs.InBounds.{step-in-bounds}

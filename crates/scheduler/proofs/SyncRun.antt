@@ -1,6 +1,6 @@
 -- The synchronous run of a table, as `fresh` and `step` make it, is the machine's synchronous run for as long as it is not over.
 --   Synced n   the run after n ticks of synchronous arrivals is sound, has the table's rows, and is seen as the machine's
-use mathlib.Core.Bool.{Bool, true, false, false≢true}
+use mathlib.Core.Bool.{false}
 use mathlib.Core.List.{List, [], _∷_, _++_}
 use mathlib.Core.Path.{_≡_, refl, sym, ap, ap₂, subst, _∙_}
 use native.Mathlib.Omega.{arith}
@@ -16,9 +16,9 @@ use Rattle.scheduler.specs.Machine.{State, Arrivals, dueOf, pick, tick, 
 use Rattle.scheduler.specs.Reached.{offeredBy, offered, Sound}
 use Rattle.scheduler.specs.Runs.{rowCount, taskRows, handlerRows}
 use Rattle.scheduler.specs.Schedules.{beats, beatsAt, syncBy, sync}
-use Rattle.scheduler.specs.Start.{freshOf, freshRun}
-use Rattle.scheduler.specs.Steps.{stepOf, stepBy}
-use Rattle.scheduler.specs.View.{part, viewOf, offerOf}
+use Rattle.scheduler.specs.Start.{freshOf}
+use Rattle.scheduler.specs.Steps.{stepOf}
+use Rattle.scheduler.specs.View.{viewOf, offerOf}
 use Rattle.scheduler.specs.declared.Run.{Run}
 use Rattle.scheduler.proofs.Answers.{passed}
 use Rattle.scheduler.proofs.Beats.{beats-length}

@@ -1,19 +1,18 @@
 -- The rows of a run are the rows of its state, place by place.
 --   Rows r a n rs   rs are the n rows of run r from place a on
-use mathlib.Core.Bool.{Bool, true, false}
 use mathlib.Core.List.{List, [], _∷_}
 use mathlib.Core.Path.{_≡_, refl, sym, ap, _∙_}
 use native.Mathlib.Nat.{zero-add}
 use native.Mathlib.Omega.{arith}
 use borrow.Author.Tests.{lt-ltb, le-ltb}
 use Prim.Native.Nat.{ℕ, zero, suc, _+_, _-_, _*_, _≤_, _<_}
-use lib.ListN.{length, getD, take}
+use lib.ListN.{length, take}
 use lib.Seq.{length-take-le, getD-take}
 use Rattle.demand.proofs.Slices.{rows-count}
 use Rattle.demand.specs.Rows.{Row, rowsOf, rowAt, noRow}
 use Rattle.scheduler.specs.Places.{Fits}
 use Rattle.scheduler.specs.Reached.{Sound}
-use Rattle.scheduler.specs.Runs.{rowIn, taskRows, handlerRows, Fitting, Shaped}
+use Rattle.scheduler.specs.Runs.{rowIn, taskRows, handlerRows, Fitting}
 use Rattle.scheduler.specs.View.{part}
 use Rattle.scheduler.specs.declared.Run.{Run}
 use Rattle.scheduler.proofs.Clauses.{clauses, clauses-fit}

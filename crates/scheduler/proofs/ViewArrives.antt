@@ -2,14 +2,14 @@
 use mathlib.Core.Bool.{false}
 use mathlib.Core.List.{List}
 use mathlib.Core.Logic.{_⊎_, inl, inr}
-use mathlib.Core.Path.{_≡_, refl, sym, _∙_}
+use mathlib.Core.Path.{_≡_, sym, _∙_}
 use native.Mathlib.Nat.{zero-add, eq-zero-or-pos}
 use native.Mathlib.Omega.{arith}
 use Prim.Native.Nat.{ℕ, _+_, _-_, _≤_, _<_}
 use lib.ListN.{length, getD}
 use Rattle.demand.proofs.Divide.{le-or-lt}
 use Rattle.demand.specs.Limits.{ticksMost}
-use Rattle.demand.specs.Rows.{Row, rowAt}
+use Rattle.demand.specs.Rows.{Row}
 use Rattle.scheduler.specs.Guarantees.{Accepted, LegalArrival}
 use Rattle.scheduler.specs.Machine.{arriveAll, LegalAll, LegalTick}
 use Rattle.scheduler.specs.Places.{liveOf, Fits}
@@ -19,7 +19,7 @@ use Rattle.scheduler.specs.Tick.{nextArrived}
 use Rattle.scheduler.specs.View.{part, seen, viewOf, offerOf}
 use Rattle.scheduler.specs.declared.Run.{Run}
 use Rattle.scheduler.proofs.Answers.{Passed}
-use Rattle.scheduler.proofs.FlatArrive.{Arrived, arrive-flat, legal-flat}
+use Rattle.scheduler.proofs.FlatArrive.{arrive-flat, legal-flat}
 use Rattle.scheduler.proofs.FlatFacts.{flat-legal}
 use Rattle.scheduler.proofs.KeepsBounds.{nextNow, owedNow, owed-at, owed-length}
 use Rattle.scheduler.proofs.LegalArrivals.{passed-legal, passed-moves, passed-waits, legal-accepted}

@@ -5,18 +5,16 @@ use mathlib.Core.Path.{_≡_, refl, sym, ap, _∙_}
 use native.Mathlib.Nat.{zero-add}
 use native.Mathlib.Omega.{arith}
 use borrow.Author.Tests.{ltb-true, ltb-false, eqb-true}
-use Prim.Native.Nat.{ℕ, _+_, _≤_, _<_}
+use Prim.Native.Nat.{ℕ, _<_}
 use lib.Dec.{ltb, eqb}
-use lib.ListN.{length, getD}
+use lib.ListN.{getD}
 use Rattle.demand.specs.Rows.{rowAt}
 use Rattle.scheduler.specs.Machine.{OnTime}
 use Rattle.scheduler.specs.Places.{Fits, dueAt}
 use Rattle.scheduler.specs.Reached.{Sound}
 use Rattle.scheduler.specs.Runs.{rowIn, dueIn, taskRows}
-use Rattle.scheduler.specs.Scans.{any}
 use Rattle.scheduler.specs.Tick.{isLate, lateRow, isTask}
 use Rattle.scheduler.specs.View.{part, viewOf}
-use Rattle.scheduler.specs.declared.Late.{Late}
 use Rattle.scheduler.specs.declared.Late.the-variants as late
 use Rattle.scheduler.specs.declared.Run.{Run}
 use Rattle.scheduler.proofs.FlatArrive.{on-time-flat}

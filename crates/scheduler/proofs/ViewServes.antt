@@ -1,13 +1,12 @@
 -- The one to whom a run's tick goes is the one who runs in its state. Said for any key, of which the deadline is one.
 use mathlib.Core.List.{List}
-use mathlib.Core.Logic.{_⊎_, inl, inr}
 use mathlib.Core.Path.{_≡_, refl, sym, ap, _∙_}
 use native.Mathlib.Nat.{zero-add}
 use native.Mathlib.Numerals.{add-one}
 use native.Mathlib.Omega.{arith}
 use Prim.Native.Nat.{ℕ, zero, suc, _+_, _-_, _≤_, _<_}
 use lib.ListN.{length, getD, set}
-use Rattle.demand.specs.Rows.{Row, rowAt}
+use Rattle.demand.specs.Rows.{rowAt}
 use Rattle.scheduler.specs.Machine.{Live, State, owedAll, serve, pick, givenBy}
 use Rattle.scheduler.specs.Places.{liveOf, liveAt, Fits}
 use Rattle.scheduler.specs.Reached.{Sound}
@@ -21,7 +20,7 @@ use Rattle.scheduler.proofs.Choice.{pick-idle, idle-owes-none}
 use Rattle.scheduler.proofs.Flat.{pick-flat, serve-flat, idle-flat}
 use Rattle.scheduler.proofs.FlatFacts.{flat-owed}
 use Rattle.scheduler.proofs.Parts.{part-at, part-set, part-after, front-at, front-set, front-before}
-use Rattle.scheduler.proofs.View.{Rows, rows-fit, task-rows, handler-rows}
+use Rattle.scheduler.proofs.View.{rows-fit, task-rows, handler-rows}
 
 module _ (key : Live → ℕ) (r : Run) (s : Sound r) (next owed : List ℕ) (next-80 : length next ≡ 80) (owed-80 : length owed ≡ 80) where
   abbrev n : ℕ

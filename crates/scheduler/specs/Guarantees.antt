@@ -17,7 +17,7 @@ use Prim.Native.Nat.{ℕ, zero, suc, _+_, _≤_, _<_}
 use lib.ListN.{length, getD}
 use Rattle.demand.specs.Limits.{ticksMost}
 use Rattle.demand.specs.Rows.{tasksOf, handlersOf}
-use Rattle.verdict.specs.Promise.{Figures, Word, figures, VerdictSays, verdictRefusal}
+use Rattle.verdict.specs.Promise.{figures, VerdictSays, verdictRefusal}
 use Rattle.verdict.specs.Promise.Word.{fits, misses}
 use Rattle.verdict.specs.declared.Answer as verdict
 use Rattle.scheduler.specs.Machine.{Live}
