@@ -34,7 +34,7 @@ module _ (r : Run) (ws : List ℕ) (shaped : Shaped r) (p : Passed r ws) where
   pub few : rowCount r ≤ 80
   few = let fit = clauses-fit r before in omega (arith, fit .tasks, fit .handlers)
 
-  next-at : (k : ℕ) → k < rowCount r → getD nextNow k 0 ≡ nextAfter (r .clock) (rowIn r k) (getD ws k 0) (getD (r .next) k 0)
+  pub next-at : (k : ℕ) → k < rowCount r → getD nextNow k 0 ≡ nextAfter (r .clock) (rowIn r k) (getD ws k 0) (getD (r .next) k 0)
   unfolding nextArrived
   next-at k l = filled-below (λ j. nextAfter (r .clock) (rowIn r j) (getD ws j 0) (getD (r .next) j 0)) (rowCount r) k (r .next) l (omega (arith, few, shaped .next-80))
 
@@ -46,7 +46,7 @@ module _ (r : Run) (ws : List ℕ) (shaped : Shaped r) (p : Passed r ws) where
   unfolding owedArrived
   owed-length = length-filled _ (rowCount r) (r .owed) ∙ shaped .owed-80
 
-  arrival : (k : ℕ) → k < rowCount r → Came (r .clock) (rowIn r k) (getD (r .next) k 0) (getD ws k 0) (getD nextNow k 0)
+  pub arrival : (k : ℕ) → k < rowCount r → Came (r .clock) (rowIn r k) (getD (r .next) k 0) (getD ws k 0) (getD nextNow k 0)
   arrival k l =
       subst (Came (r .clock) (rowIn r k) (getD (r .next) k 0) (getD ws k 0)) (sym (next-at k l))
       (came (r .clock) (rowIn r k) (getD (r .next) k 0) (getD ws k 0)

@@ -10,3 +10,5 @@ pub mod Start
 pub mod Reached
 pub mod Books
 pub mod Rule
+pub mod View
+pub mod Guarantees

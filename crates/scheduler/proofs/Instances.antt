@@ -1,0 +1,133 @@
+-- No hypothesis of the guarantees is empty: cases 6 and 9 (01, "Sums done by hand") run through each of them, and what they say of case 9 is computed beside it.
+use mathlib.Core.Bool.{true, false}
+use mathlib.Core.List.{List, [], _∷_}
+use mathlib.Core.Path.{_≡_, refl, sym, _∙_}
+use native.Mathlib.Omega.{arith}
+use Prim.Native.Nat.{ℕ}
+use Rattle.demand.specs.Refusals.{tableRefusal, tableThen}
+use Rattle.demand.specs.Rows.{rowsOf, some, tasksOf, handlersOf}
+use Rattle.verdict.proofs.Cases.{cases-hold}
+use Rattle.verdict.proofs.UnderLess.{says-fits}
+use Rattle.verdict.specs.Cases.{cases}
+use Rattle.verdict.specs.Promise.{figures, SaysFits, VerdictSays}
+use Rattle.verdict.specs.Promise.Word.{fits, misses}
+use Rattle.verdict.specs.declared.Answer.{Answer}
+use Rattle.verdict.specs.declared.Answer.the-variants as verdict
+use Rattle.scheduler.specs.Bounds.{outOfBounds}
+use Rattle.scheduler.specs.Guarantees.{Accepted, LegalArrivals, beatOf, beatsTo, syncRun, LateAt, Ours}
+use Rattle.scheduler.specs.Machine.{Live}
+use Rattle.scheduler.specs.Reached.{offered, offeredBy}
+use Rattle.scheduler.specs.Runs.{dueIn}
+use Rattle.scheduler.specs.Scans.{any, firstOf, filled, used}
+use Rattle.scheduler.specs.Schedules.{Timely, beats, sync}
+use Rattle.scheduler.specs.Start.{freshOf, freshRun, padded, zeros}
+use Rattle.scheduler.specs.Steps.{stepBy, stepRefusal}
+use Rattle.scheduler.specs.Tick.{nextArrived, owedArrived, earliest, goesTo, lateRow, tickedBy}
+use Rattle.scheduler.specs.declared.Late.the-variants as late
+use Rattle.scheduler.specs.declared.Start.the-variants.{Ready}
+use Rattle.scheduler.proofs.InBounds.{fresh-in-bounds}
+use Rattle.scheduler.proofs.LateExactly.{late-exactly}
+use Rattle.scheduler.proofs.LegalArrivals.{legal-arrivals}
+use Rattle.scheduler.proofs.NeverLate.{never-late}
+use Rattle.scheduler.proofs.NoScheduler.{no-scheduler, ours-is-one, optimal, fits-met}
+use Rattle.scheduler.proofs.OurRun.{our-run}
+
+-- ---- case 6: task 1/3, handler 2/10. A yes.
+
+abbrev tasks-6 : List ℕ
+tasks-6 = 1 ∷ 3 ∷ []
+
+abbrev handlers-6 : List ℕ
+handlers-6 = 2 ∷ 10 ∷ []
+
+abbrev answer-6 : Answer
+answer-6 = verdict.Fits 533333
+
+says-6 : VerdictSays tasks-6 handlers-6 answer-6
+unfolding VerdictSays figures cases
+says-6 = cases-hold .1 .1 .1 .1 .1 .0 .holds
+
+word-6 : figures answer-6 .word ≡ fits
+unfolding figures
+word-6 = refl
+
+-- Whatever is offered, the run is not over; ..
+pub never-late-6 : (offers : List (List ℕ)) → offered offers (freshOf tasks-6 handlers-6 .run) .over ≡ false
+never-late-6 = never-late tasks-6 handlers-6 answer-6 says-6 word-6
+
+-- .. and some offers are accepted: both rows at once, at full cost.
+ready-6 : freshOf tasks-6 handlers-6 .answer ≡ Ready
+unfolding freshOf tableRefusal tableThen some rowsOf
+ready-6 = refl
+
+pub accepted-6 : Accepted (freshOf tasks-6 handlers-6 .run) (1 ∷ 2 ∷ [])
+unfolding freshOf freshRun tableRefusal tableThen some rowsOf padded zeros stepRefusal outOfBounds any used
+accepted-6 = refl
+
+-- What is accepted there is what is legal.
+legal-6 : (ws : List ℕ) → LegalArrivals (freshOf tasks-6 handlers-6 .run) ws
+unfolding freshOf freshRun tableRefusal tableThen some rowsOf
+legal-6 ws = legal-arrivals (freshOf tasks-6 handlers-6 .run) ws (fresh-in-bounds tasks-6 handlers-6 ready-6) refl (omega arith)
+
+-- Some schedule meets every deadline for ever, ours: so whatever the promise allows is a yes.
+pub optimal-6 : (r : Answer) → VerdictSays tasks-6 handlers-6 r → figures r .word ≡ fits
+unfolding VerdictSays
+optimal-6 r says =
+    let saying : SaysFits tasks-6 handlers-6 (figures answer-6) = says-fits tasks-6 handlers-6 (figures answer-6) word-6 says-6 in
+    optimal tasks-6 handlers-6 r (saying .readable) says (fits-met tasks-6 handlers-6 answer-6 says-6 word-6)
+
+-- ---- case 9: tasks 2/5 and 4/8, handler 1/4. A no, at 10.
+
+abbrev tasks-9 : List ℕ
+tasks-9 = 2 ∷ 5 ∷ 4 ∷ 8 ∷ []
+
+abbrev handlers-9 : List ℕ
+handlers-9 = 1 ∷ 4 ∷ []
+
+abbrev answer-9 : Answer
+answer-9 = verdict.Misses 10 3 8 1150000
+
+says-9 : VerdictSays tasks-9 handlers-9 answer-9
+unfolding VerdictSays figures cases
+says-9 = cases-hold .1 .1 .1 .1 .1 .1 .1 .1 .0 .holds
+
+word-9 : figures answer-9 .word ≡ misses
+unfolding figures
+word-9 = refl
+
+-- The ten synchronous ticks are accepted, the run is over at clock 10 and not before.
+pub late-9 : LateAt tasks-9 handlers-9 10
+unfolding figures
+late-9 = late-exactly tasks-9 handlers-9 answer-9 says-9 word-9
+
+-- The same run, computed tick by tick: over at clock 10, and task 0 is late.
+over-9 : syncRun tasks-9 handlers-9 10 .over ≡ true
+unfolding beatOf beatsTo beats offeredBy freshOf freshRun tableRefusal tableThen some rowsOf padded zeros stepBy stepRefusal outOfBounds any used tickedBy nextArrived owedArrived filled goesTo earliest firstOf lateRow
+over-9 = refl
+
+late-row-9 : syncRun tasks-9 handlers-9 10 .late ≡ late.Task 0
+unfolding beatOf beatsTo beats offeredBy freshOf freshRun tableRefusal tableThen some rowsOf padded zeros stepBy stepRefusal outOfBounds any used tickedBy nextArrived owedArrived filled goesTo earliest firstOf lateRow
+late-row-9 = refl
+
+-- So task 0 is the first task owed work with its deadline at 10.
+pub first-late-9 :
+    lateRow 10 (dueIn (syncRun tasks-9 handlers-9 10)) (syncRun tasks-9 handlers-9 10 .owed) (syncRun tasks-9 handlers-9 10 .«task_count»)
+    ≡ late.Task 0
+first-late-9 = sym (late-9 .late) ∙ late-row-9
+
+-- No schedule that puts handlers first meets every deadline up to clock 10, ..
+pub no-schedule-9 : (xs ys : List Live) → ¬ Timely (tasksOf tasks-9) (handlersOf handlers-9) 10 xs ys
+unfolding figures
+no-schedule-9 = no-scheduler tasks-9 handlers-9 answer-9 says-9 word-9
+
+-- .. but ours meets every one up to clock 9, as the machine runs it and as `fresh` and `step` do.
+pub ours-9 : Timely (tasksOf tasks-9) (handlersOf handlers-9) 9 (sync 9 (tasksOf tasks-9) (handlersOf handlers-9) .tasks) (sync 9 (tasksOf tasks-9) (handlersOf handlers-9) .handlers)
+unfolding figures
+ours-9 = ours-is-one tasks-9 handlers-9 answer-9 says-9 word-9 9 (omega arith)
+
+ready-9 : freshOf tasks-9 handlers-9 .answer ≡ Ready
+unfolding freshOf tableRefusal tableThen some rowsOf
+ready-9 = refl
+
+pub our-run-9 : Ours tasks-9 handlers-9 9
+our-run-9 = our-run tasks-9 handlers-9 ready-9 9 (omega arith) (late-9 .on-time 9 (omega arith))
