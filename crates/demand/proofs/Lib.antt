@@ -6,6 +6,7 @@ pub mod Between
 pub mod Walks
 pub mod Lighten
 pub mod Slices
+pub mod Places
 pub mod Refused
 pub mod Sizes
 pub mod Signs

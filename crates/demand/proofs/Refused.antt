@@ -5,14 +5,15 @@ use mathlib.Core.Logic.{_⊎_, inl, inr}
 use mathlib.Core.Path.{_≡_, refl, sym, _∙_}
 use native.Mathlib.Nat.{eq-zero-or-pos}
 use native.Mathlib.Omega.{arith}
-use borrow.Author.Tests.{ltb-false, eqb-false, le-ltb, lt-ltb}
-use Prim.Native.Nat.{ℕ, suc, _≤_, _<_}
+use borrow.Author.Tests.{ltb-false, eqb-false, ne-eqb, le-ltb, lt-ltb}
+use Prim.Native.Nat.{ℕ, suc, _*_, _%_, _≤_, _<_}
 use lib.Dec.{ltb, eqb}
 use lib.ListN.{length}
 use Rattle.demand.specs.Limits.{figureMost, tasksMost, handlersMost, ticksMost}
 use Rattle.demand.specs.Refusals.{odd, miscounted, outside, rowOutside, tableThen, tableRefusal, askedRefusal, Fair, FairRow, InRange}
-use Rattle.demand.specs.Rows.{Row, tasksOf, handlersOf, some, Each}
+use Rattle.demand.specs.Rows.{Row, rowsOf, tasksOf, handlersOf, some, Each}
 use Rattle.demand.specs.Tests.{refuse}
+use Rattle.demand.proofs.Slices.{rows-count}
 
 -- Neither of two tests holds.
 neither : (a b : Bool) → (a || b) ≡ false → (a ≡ false) × (b ≡ false)
@@ -30,13 +31,24 @@ fair-figure x e =
     let some : x ≡ 0 → ⊥ = eqb-false x 0 (n .0) in
     record { least = omega arith; most = ltb-false figureMost x (n .1) }
 
+pub fair-row : (r : Row) → rowOutside r ≡ false → FairRow r
+fair-row r e =
+    let figures = neither (outside (r .cost)) (outside (r .period)) e in
+    record { cost = fair-figure (r .cost) (figures .0); period = fair-figure (r .period) (figures .1) }
+
 pub fair-rows : (rs : List Row) → some rowOutside rs ≡ false → Each FairRow rs
 unfolding some
 fair-rows [] e = tt
 fair-rows (r ∷ rs) e =
     let here = neither (rowOutside r) (some rowOutside rs) e in
-    let row = neither (outside (r .cost)) (outside (r .period)) (here .0) in
-    (record { cost = fair-figure (r .cost) (row .0); period = fair-figure (r .period) (row .1) }, fair-rows rs (here .1))
+    (fair-row r (here .0), fair-rows rs (here .1))
+
+-- And the reverse.
+figure-inside : (x : ℕ) → Fair x → outside x ≡ false
+figure-inside x f = rw (ne-eqb x 0 (λ z. omega (arith, f .least)), le-ltb figureMost x (f .most))
+
+pub row-inside : (r : Row) → FairRow r → rowOutside r ≡ false
+row-inside r f = rw (figure-inside (r .cost) (f .cost), figure-inside (r .period) (f .period))
 
 -- ---- the number of each answer
 
@@ -83,6 +95,16 @@ table-in-range t h rest e =
 pub refusal-in-range : (t h : List ℕ) → tableRefusal t h ≡ 0 → InRange (tasksOf t) (handlersOf h)
 unfolding tableRefusal
 refusal-in-range t h e = table-in-range t h 0 e .0
+
+-- No odd count: both lists are whole rows.
+even : (s : List ℕ) → odd s ≡ false → length s ≡ 2 * length (rowsOf s)
+even s e = let apart : length s % 2 ≡ 1 → ⊥ = eqb-false (length s % 2) 1 e in omega (arith, rows-count s)
+
+pub refusal-whole : (t h : List ℕ) → tableRefusal t h ≡ 0 → (length t ≡ 2 * length (tasksOf t)) × (length h ≡ 2 * length (handlersOf h))
+unfolding tableRefusal tableThen
+refusal-whole t h e =
+    let counts = neither (odd t) (odd h) (not-refused 0 (odd t || odd h) _ e .0) in
+    (even t (counts .0), even h (counts .1))
 
 -- The later tests speak exactly where the table has no refusal of its own.
 pub table-then-zero : (t h : List ℕ) (rest : ℕ) → tableRefusal t h ≡ 0 → tableThen t h rest ≡ rest

@@ -4,12 +4,12 @@ use mathlib.Core.List.{List, [], _∷_}
 use mathlib.Core.Path.{_≡_, refl, ap, sym, _∙_}
 use native.Mathlib.Numerals.{add-one}
 use native.Mathlib.Omega.{arith}
-use Prim.Native.Nat.{ℕ, zero, suc, _+_, _-_, _*_, _/_, _≤_, _<_, min}
+use Prim.Native.Nat.{ℕ, _+_, _-_, _*_, _/_, _≤_, _<_, min}
 use lib.ListN.{length, getD, take, drop, length-drop}
 use lib.Seq.{take-all, drop-drop}
 use Rattle.demand.specs.Demands.{calledBy, dueBy, called, due}
 use Rattle.demand.specs.Refusals.{FairRow}
-use Rattle.demand.specs.Rows.{Row, rowsOf, rowAt, total, some}
+use Rattle.demand.specs.Rows.{Row, rowsOf, total, some}
 use Rattle.demand.specs.Walk.{rest, nextMultiple, Small}
 
 -- the row at the head
@@ -38,14 +38,6 @@ unfolding rowsOf
 rows-count [] = refl
 rows-count (c ∷ []) = refl
 rows-count (c ∷ p ∷ s) = omega (arith, rows-count s)
-
--- The row at place i is the two numbers from place 2i on.
-pub rows-at : (s : List ℕ) (i : ℕ) → suc (i + i) < length s → rowAt (rowsOf s) i ≡ record { cost = getD s (i + i) 0; period = getD s (suc (i + i)) 0 }
-unfolding rowsOf
-rows-at [] i h = absurd (omega arith)
-rows-at (c ∷ []) i h = absurd (omega arith)
-rows-at (c ∷ p ∷ s) zero h = refl
-rows-at (c ∷ p ∷ s) (suc i) h = let e : suc i + suc i ≡ suc (suc (i + i)) = omega arith in rw e (rows-at s i (omega arith))
 
 -- The list from place i on, as the code lends it; two places further is the rest of it.
 abbrev pub from : ℕ → List ℕ → List ℕ

@@ -21,6 +21,14 @@ each-row f (r ∷ rs) = (f r, each-row f rs)
 pub valid-positive : (ts : List Row) → Valid ts → Positive ts
 valid-positive ts v = each-map (λ r s. omega (arith, s .some, s .fits)) ts v
 
+pub total-nil : (g : Row → ℕ) → total g [] ≡ 0
+unfolding total
+total-nil g = refl
+
+pub total-cons : (g : Row → ℕ) (r : Row) (rs : List Row) → total g (r ∷ rs) ≡ g r + total g rs
+unfolding total
+total-cons g r rs = refl
+
 -- No more of each row: no more in all.
 pub total-le : (g k : Row → ℕ) (rs : List Row) → Each (λ r. g r ≤ k r) rs → total g rs ≤ total k rs
 unfolding total

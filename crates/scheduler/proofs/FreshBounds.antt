@@ -1,6 +1,6 @@
 -- A fresh run is in bounds.
 use mathlib.Core.Bool.{Bool, true, false}
-use mathlib.Core.List.{List, [], _∷_, _++_}
+use mathlib.Core.List.{List}
 use mathlib.Core.Logic.{_⊎_, inl, inr}
 use mathlib.Core.Path.{_≡_, refl, sym, ap, _∙_}
 use native.Mathlib.Omega.{arith}
@@ -10,9 +10,11 @@ use lib.Dec.{ltb, eqb}
 use lib.ListN.{length, getD, drop, replicate, length-append, length-replicate, getD-replicate, List·getD-append, List·getD-eq-default}
 use lib.Seq.{drop-at}
 use Rattle.demand.proofs.Divide.{le-or-lt}
-use Rattle.demand.specs.Limits.{figureMost, tasksMost, handlersMost}
-use Rattle.demand.specs.Refusals.{outside, rowOutside, tableRefusal, Fair, FairRow}
-use Rattle.demand.specs.Rows.{Row, rowsOf, tasksOf, handlersOf, rowAt, noRow, Each}
+use Rattle.demand.proofs.Places.{rows-append, each-at}
+use Rattle.demand.proofs.Refused.{row-inside}
+use Rattle.demand.specs.Limits.{tasksMost, handlersMost}
+use Rattle.demand.specs.Refusals.{tableRefusal, FairRow}
+use Rattle.demand.specs.Rows.{Row, rowsOf, tasksOf, handlersOf, rowAt, noRow}
 use Rattle.scheduler.specs.Bounds.{miscounts, outsideAt, placesUsed, InBounds}
 use Rattle.scheduler.specs.Runs.{rowIn, rowCount, Shaped}
 use Rattle.scheduler.specs.Scans.{used}
@@ -56,29 +58,11 @@ padded-unused : (n : ℕ) (xs : List ℕ) (k : ℕ) → length xs ≡ k → used
 unfolding padded
 padded-unused n xs k e = rw (drop-at xs (replicate (n - length xs) 0) k e) (used-zeros (n - length xs))
 
--- Whole rows in front stay the rows that they are.
-rows-append : (s z : List ℕ) → length s ≡ 2 * length (rowsOf s) → rowsOf (s ++ z) ≡ rowsOf s ++ rowsOf z
-unfolding rowsOf
-rows-append [] z e = refl
-rows-append (c ∷ []) z e = absurd (omega arith)
-rows-append (c ∷ p ∷ s) z e = ap (λ (rs : List Row). record { cost = c; period = p } ∷ rs) (rows-append s z (omega arith))
-
 padded-row : (n : ℕ) (xs : List ℕ) (k : ℕ) → length xs ≡ 2 * length (rowsOf xs) → k < length (rowsOf xs) → rowAt (rowsOf (padded n xs)) k ≡ rowAt (rowsOf xs) k
 unfolding padded
 padded-row n xs k e l =
     ap (λ (rs : List Row). rowAt rs k) (rows-append xs (replicate (n - length xs) 0) e)
     ∙ List·getD-append (rowsOf xs) (rowsOf (replicate (n - length xs) 0)) noRow k l
-
-each-at : (P : Row → Type 0) (rs : List Row) → Each P rs → (k : ℕ) → k < length rs → P (rowAt rs k)
-each-at P [] h k l = absurd (omega arith)
-each-at P (r ∷ rs) h zero l = h .0
-each-at P (r ∷ rs) h (suc k) l = each-at P rs (h .1) k (omega arith)
-
-not-outside : (x : ℕ) → Fair x → outside x ≡ false
-not-outside x f = rw (ne-eqb x 0 (λ z. omega (arith, f .least)), le-ltb figureMost x (f .most))
-
-fair-inside : (r : Row) → FairRow r → rowOutside r ≡ false
-fair-inside r f = rw (not-outside (r .cost) (f .cost), not-outside (r .period) (f .period))
 
 -- ---- the fresh run
 
@@ -102,12 +86,12 @@ module _ (t h : List ℕ) (e : tableRefusal t h ≡ 0) where
       go : (b : Bool) → ltb k (length (tasksOf t)) ≡ b → outsideAt (rowIn (freshRun t h)) k ≡ false
       go true q =
           let below = ltb-true k (length (tasksOf t)) q in
-          rw (q, padded-row 128 t k (table .tasks) below) (fair-inside _ (each-at FairRow (tasksOf t) (table .in-range .tasks) k below))
+          rw (q, padded-row 128 t k (table .tasks) below) (row-inside _ (each-at FairRow (tasksOf t) (table .in-range .tasks) k below))
       go false q =
           let above = ltb-false k (length (tasksOf t)) q in
           let i : ℕ = k - length (tasksOf t) in
           let below : i < length (handlersOf h) = omega arith in
-          rw (q, padded-row 32 h i (table .handlers) below) (fair-inside _ (each-at FairRow (handlersOf h) (table .in-range .handlers) i below))
+          rw (q, padded-row 32 h i (table .handlers) below) (row-inside _ (each-at FairRow (handlersOf h) (table .in-range .handlers) i below))
 
   places : placesUsed (freshRun t h) ≡ false
   unfolding freshRun

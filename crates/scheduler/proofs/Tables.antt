@@ -1,39 +1,27 @@
 -- A table without a refusal has whole rows and room in a run; how a fresh run is put together.
-use mathlib.Core.Bool.{false, _||_}
+use mathlib.Core.Bool.{false}
 use mathlib.Core.List.{List, _++_}
 use mathlib.Core.Path.{_≡_}
 use native.Mathlib.Omega.{arith}
-use borrow.Author.Tests.{eqb-false, eq-eqb, ne-eqb}
-use Prim.Native.Nat.{ℕ, zero, suc, _-_, _*_, _/_, _%_, _≤_}
+use borrow.Author.Tests.{eq-eqb, ne-eqb}
+use Prim.Native.Nat.{ℕ, zero, suc, _-_, _*_, _/_, _≤_}
 use lib.ListN.{length, drop, replicate}
-use Rattle.demand.proofs.Refused.{not-refused, refusal-in-range}
+use Rattle.demand.proofs.Refused.{refusal-in-range, refusal-whole}
 use Rattle.demand.proofs.Slices.{rows-count}
-use Rattle.demand.specs.Refusals.{odd, tableThen, tableRefusal, InRange}
+use Rattle.demand.specs.Refusals.{tableRefusal, InRange}
 use Rattle.demand.specs.Rows.{tasksOf, handlersOf}
 use Rattle.scheduler.specs.Runs.{runOf}
 use Rattle.scheduler.specs.Start.{padded, zeros, freshRun, noRun, freshOf}
 use Rattle.scheduler.specs.declared.Late.the-variants.{Nobody}
 use Rattle.scheduler.specs.declared.Start.the-variants.{Ready, Refused}
-use Rattle.scheduler.proofs.Scan.{neither}
 
 pub record Whole (t h : List ℕ) : Type 0 where
   pub tasks : length t ≡ 2 * length (tasksOf t)
   pub handlers : length h ≡ 2 * length (handlersOf h)
   pub in-range : InRange (tasksOf t) (handlersOf h)
 
--- No odd count: two numbers a row.
-even : (s : List ℕ) → odd s ≡ false → length s ≡ 2 * (length s / 2)
-even s e = let apart : length s % 2 ≡ 1 → ⊥ = eqb-false _ _ e in omega arith
-
 pub whole : (t h : List ℕ) → tableRefusal t h ≡ 0 → Whole t h
-unfolding tableRefusal tableThen
-whole t h e =
-    let counts = neither (odd t) (odd h) (not-refused 0 (odd t || odd h) _ e .0) in
-    record {
-      tasks = omega (arith, even t (counts .0), rows-count t);
-      handlers = omega (arith, even h (counts .1), rows-count h);
-      in-range = refusal-in-range t h e;
-    }
+whole t h e = let counts = refusal-whole t h e in record { tasks = counts .0; handlers = counts .1; in-range = refusal-in-range t h e }
 
 pub tasks-fit : (t h : List ℕ) → tableRefusal t h ≡ 0 → length t ≤ 128
 tasks-fit t h e = let w = whole t h e in omega (arith, w .tasks, w .in-range .tasks-most)

@@ -1,13 +1,14 @@
 -- The rows of a run are the rows of its state, place by place.
 --   Rows r a n rs   rs are the n rows of run r from place a on
-use mathlib.Core.List.{List, [], _∷_}
-use mathlib.Core.Path.{_≡_, refl, sym, ap, _∙_}
+use mathlib.Core.List.{List}
+use mathlib.Core.Path.{_≡_, sym, _∙_}
 use native.Mathlib.Nat.{zero-add}
 use native.Mathlib.Omega.{arith}
 use borrow.Author.Tests.{lt-ltb, le-ltb}
-use Prim.Native.Nat.{ℕ, zero, suc, _+_, _-_, _*_, _≤_, _<_}
+use Prim.Native.Nat.{ℕ, _+_, _-_, _*_, _≤_, _<_}
 use lib.ListN.{length, take}
 use lib.Seq.{length-take-le, getD-take}
+use Rattle.demand.proofs.Places.{rows-take}
 use Rattle.demand.proofs.Slices.{rows-count}
 use Rattle.demand.specs.Rows.{Row, rowsOf, rowAt, noRow}
 use Rattle.scheduler.specs.Places.{Fits}
@@ -22,16 +23,6 @@ pub record Rows (r : Run) (a n : ℕ) (rs : List Row) : Type 0 where
   pub count : length rs ≡ n
   pub within : a + n ≤ 80
   pub row-at : (i : ℕ) → i < n → rowAt rs i ≡ rowIn r (a + i)
-
--- The first rows stand in the first numbers.
-pub rows-take : (s : List ℕ) (n : ℕ) → rowsOf (take (2 * n) s) ≡ take n (rowsOf s)
-unfolding rowsOf
-rows-take s zero = refl
-rows-take [] (suc n) = let e : 2 * suc n ≡ suc (suc (2 * n)) = omega arith in rw e
-rows-take (c ∷ []) (suc n) = let e : 2 * suc n ≡ suc (suc (2 * n)) = omega arith in rw e
-rows-take (c ∷ p ∷ s) (suc n) =
-    let e : 2 * suc n ≡ suc (suc (2 * n)) = omega arith in
-    rw e (ap (λ (rs : List Row). record { cost = c; period = p } ∷ rs) (rows-take s n))
 
 -- They are as many as they should be, and the row at each place stays.
 taken-count : (s : List ℕ) (n : ℕ) → 2 * n ≤ length s → length (rowsOf (take (2 * n) s)) ≡ n

@@ -1,16 +1,14 @@
 -- Case 9 in full, from its bytes to its bytes.
-use mathlib.Core.List.{List, [], _∷_, _++_}
-use mathlib.Core.Logic.{_⊎_, inl, inr}
-use mathlib.Core.Path.{_≡_, refl, ap, _∙_}
+use mathlib.Core.List.{List, [], _∷_}
+use mathlib.Core.Logic.{inl, inr}
+use mathlib.Core.Path.{_≡_, refl, _∙_}
 use native.Mathlib.Omega.{arith}
-use Rattle.sheet.specs.Ascii.{crlf}
 use Rattle.sheet.specs.Example.{caseNine, caseNineSheet, CaseNinePrints}
 use Rattle.sheet.specs.Layout.{Entry, entry, text, FileSays}
 use Rattle.sheet.specs.Numbers.{decimal}
 use Rattle.sheet.specs.Printed.{lines, printed}
 use Rattle.sheet.specs.Text.{textOf}
 use Rattle.sheet.specs.Whole.{outputOf, SheetSays}
-use Rattle.sheet.specs.declared.Output.{Output}
 use Rattle.sheet.specs.declared.layout.Kind.the-variants.{Task, Handler}
 use Rattle.verdict.specs.Cases.{cases}
 use Rattle.verdict.specs.Promise.{Figures}

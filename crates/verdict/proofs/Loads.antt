@@ -6,27 +6,27 @@ use native.Mathlib.Omega.{arith}
 use lib.ListN.{length}
 use Prim.Native.Nat.{ℕ, _+_, _*_, _/_, _%_, _≤_, _<_}
 use Rattle.demand.specs.Refusals.{FairRow}
-use Rattle.demand.specs.Rows.{Row, total, Each}
-use Rattle.demand.proofs.Sums.{each-map, total-most}
+use Rattle.demand.specs.Rows.{Row, Each}
+use Rattle.demand.proofs.Sums.{each-map, total-most, total-nil, total-cons}
 use Rattle.verdict.specs.Loads.{workBy, work, costs, nearest}
 
 -- ---- row by row
 
 pub work-nil : (m : ℕ) → work m [] ≡ 0
-unfolding work total
-work-nil m = refl
+unfolding work
+work-nil m = total-nil (workBy m)
 
 pub work-cons : (m : ℕ) (r : Row) (rs : List Row) → work m (r ∷ rs) ≡ r .cost * (m / r .period) + work m rs
-unfolding work total
-work-cons m r rs = refl
+unfolding work
+work-cons m r rs = total-cons (workBy m) r rs
 
 pub costs-nil : costs [] ≡ 0
-unfolding costs total
-costs-nil = refl
+unfolding costs
+costs-nil = total-nil (λ r. r .cost)
 
 pub costs-cons : (r : Row) (rs : List Row) → costs (r ∷ rs) ≡ r .cost + costs rs
-unfolding costs total
-costs-cons r rs = refl
+unfolding costs
+costs-cons r rs = total-cons (λ r. r .cost) r rs
 
 -- ---- how great they get
 
