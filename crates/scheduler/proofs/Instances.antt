@@ -3,7 +3,7 @@ use mathlib.Core.Bool.{true, false}
 use mathlib.Core.List.{List, [], _∷_}
 use mathlib.Core.Path.{_≡_, refl, sym, _∙_}
 use native.Mathlib.Omega.{arith}
-use Prim.Native.Nat.{ℕ}
+use Prim.Native.Nat.{ℕ, _≤_}
 use Rattle.demand.specs.Refusals.{tableRefusal, tableThen}
 use Rattle.demand.specs.Rows.{rowsOf, some, tasksOf, handlersOf}
 use Rattle.verdict.proofs.Cases.{cases-hold}
@@ -21,10 +21,11 @@ use Rattle.scheduler.specs.Runs.{dueIn}
 use Rattle.scheduler.specs.Scans.{any, firstOf, filled, used}
 use Rattle.scheduler.specs.Schedules.{Timely, beats, sync}
 use Rattle.scheduler.specs.Start.{freshOf, freshRun, padded, zeros}
-use Rattle.scheduler.specs.Steps.{stepBy, stepRefusal}
+use Rattle.scheduler.specs.Steps.{stepOf, stepBy, stepRefusal}
 use Rattle.scheduler.specs.Tick.{nextArrived, owedArrived, earliest, goesTo, lateRow, tickedBy}
 use Rattle.scheduler.specs.declared.Late.the-variants as late
 use Rattle.scheduler.specs.declared.Start.the-variants.{Ready}
+use Rattle.scheduler.proofs.Apart.{period-apart}
 use Rattle.scheduler.proofs.InBounds.{fresh-in-bounds}
 use Rattle.scheduler.proofs.LateExactly.{late-exactly}
 use Rattle.scheduler.proofs.LegalArrivals.{legal-arrivals}
@@ -68,6 +69,18 @@ accepted-6 = refl
 legal-6 : (ws : List ℕ) → LegalArrivals (freshOf tasks-6 handlers-6 .run) ws
 unfolding freshOf freshRun tableRefusal tableThen some rowsOf
 legal-6 ws = legal-arrivals (freshOf tasks-6 handlers-6 .run) ws (fresh-in-bounds tasks-6 handlers-6 ready-6) refl (omega arith)
+
+-- The task may come again after its period of 3 ticks: two ticks without it between.
+abbrev between-6 : List (List ℕ)
+between-6 = (0 ∷ 0 ∷ []) ∷ (0 ∷ 0 ∷ []) ∷ []
+
+again-6 : Accepted (offered between-6 (stepOf (freshOf tasks-6 handlers-6 .run) (1 ∷ 2 ∷ []) .run)) (1 ∷ 0 ∷ [])
+unfolding offeredBy freshOf freshRun tableRefusal tableThen some rowsOf padded zeros stepBy stepRefusal outOfBounds any used tickedBy nextArrived owedArrived filled goesTo earliest firstOf lateRow
+again-6 = refl
+
+pub apart-6 : 3 ≤ offered between-6 (stepOf (freshOf tasks-6 handlers-6 .run) (1 ∷ 2 ∷ []) .run) .clock
+unfolding freshOf freshRun tableRefusal tableThen some rowsOf padded
+apart-6 = period-apart (freshOf tasks-6 handlers-6 .run) (1 ∷ 2 ∷ []) (1 ∷ 0 ∷ []) between-6 0 (fresh-in-bounds tasks-6 handlers-6 ready-6) (omega arith) accepted-6 (omega arith) again-6 (omega arith)
 
 -- Some schedule meets every deadline for ever, ours: so whatever the promise allows is a yes.
 pub optimal-6 : (r : Answer) → VerdictSays tasks-6 handlers-6 r → figures r .word ≡ fits

@@ -39,5 +39,6 @@ pub mod NoScheduler
 pub mod SyncRun
 pub mod LateExactly
 pub mod OurRun
+pub mod Apart
 pub mod Instances
 pub mod Examples

@@ -3,7 +3,8 @@
 --   beatOf t h n           == the synchronous arrivals at tick n: each row's cost where its period divides n, else 0; tasks, then handlers
 --   beatsTo t h n          == those of the first n ticks
 --   syncRun t h n          == the fresh run of a table after them
---   LegalArrivals          accepted arrivals are at least a period apart and at most the cost, and the reverse
+--   LegalArrivals          accepted arrivals come no sooner than a period after the last and bring at most the cost, and the reverse
+--   PeriodApart            so two accepted arrivals of a row are at least its period apart, whatever is offered between them
 --   NeverLate              after a yes no run from fresh is ever over, whatever is offered and however often it is refused
 --   LateExactly            after a no the synchronous run is accepted at every tick below the named interval, over at its end and not before
 --   NoScheduler            after a no no schedule that puts handlers first meets every deadline up to the end of the named interval
@@ -21,7 +22,7 @@ use Rattle.verdict.specs.Promise.{figures, VerdictSays, verdictRefusal}
 use Rattle.verdict.specs.Promise.Word.{fits, misses}
 use Rattle.verdict.specs.declared.Answer as verdict
 use Rattle.scheduler.specs.Machine.{Live}
-use Rattle.scheduler.specs.Reached.{offered}
+use Rattle.scheduler.specs.Reached.{offered, Sound}
 use Rattle.scheduler.specs.Runs.{rowIn, rowCount, dueIn}
 use Rattle.scheduler.specs.Schedules.{beats, Timely, sync}
 use Rattle.scheduler.specs.Start.{freshOf}
@@ -57,6 +58,13 @@ pub record LegalArrivals (r : Run) (ws : List ℕ) : Type 0 where
   pub apart : Accepted r ws → (k : ℕ) → k < rowCount r → 0 < getD ws k 0 → getD (stepOf r ws .run .next) k 0 ≡ r .clock + rowIn r k .period
   pub waits : Accepted r ws → (k : ℕ) → k < rowCount r → getD ws k 0 ≡ 0 → getD (stepOf r ws .run .next) k 0 ≡ getD (r .next) k 0
   pub accepted : length ws ≡ rowCount r → ((k : ℕ) → k < rowCount r → LegalArrival r k (getD ws k 0)) → Accepted r ws
+
+abbrev pub PeriodApart : Type 0
+PeriodApart =
+    (r : Run) (ws ws' : List ℕ) (offers : List (List ℕ)) (k : ℕ) → Sound r → k < rowCount r
+    → Accepted r ws → 0 < getD ws k 0
+    → Accepted (offered offers (stepOf r ws .run)) ws' → 0 < getD ws' k 0
+    → r .clock + rowIn r k .period ≤ offered offers (stepOf r ws .run) .clock
 
 abbrev pub NeverLate : Type 0
 NeverLate =
