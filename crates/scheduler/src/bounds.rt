@@ -1,16 +1,16 @@
-// Refusal 6: is a run out of bounds? A function for each clause of the paper, in its order.
+// Refusal 6: is a run out of bounds? A function for each clause of the paper, in its order; that of places past the last row is in places.
 ghost use mathlib.Core.Bool.{false, not, _&&_, _||_};
 ghost use mathlib.Core.Path.{_≡_};
 ghost use Prim.Native.Nat.{_+_, _*_, _<_, _≤_};
-ghost use lib.ListN.{length, drop};
 ghost use Rattle.demand.specs.Limits.{ticksMost};
 ghost use Rattle.demand.specs.Refusals.{outside};
 ghost use Rattle.scheduler.specs.Bounds.{miscounts, outsideAt, tooFar, tooMuch, tooMuchBehind, passed, missed, names, outOfBounds};
 ghost use Rattle.scheduler.specs.Runs.{runOf, rowOn, Fitting};
-ghost use Rattle.scheduler.specs.Scans.{at, any, used};
+ghost use Rattle.scheduler.specs.Scans.{at, any};
 ghost use Rattle.scheduler.specs.Tick.{isTask, lateRow};
 use crate::Late;
 use crate::Run;
+use crate::places;
 use crate::rows;
 use crate::tick;
 use demand::refusal::FIGURE_MOST;
@@ -40,52 +40,6 @@ fn figures_outside<'a>(tasks: &'a [u32; 128], handlers: &'a [u32; 32], n: usize,
         k += 1;
     }
     bad
-}
-
-// Is some number of s from a place on not 0?
-fn used_numbers(s: &[u32], from: usize) -> bool
-    requires { ⌜ from ≤ length (now s) ⌝ }
-    ensures { λ r. ⌜ r ≡ used (drop from (now (s .entry))) ⌝ }
-{
-    let mut bad = false;
-    let mut k = from;
-    while k < s.len() {
-        bad = bad | (s[k] != 0);
-        k += 1;
-    }
-    bad
-}
-
-fn used_ticks(s: &[u64], from: usize) -> bool
-    requires { ⌜ from ≤ length (now s) ⌝ }
-    ensures { λ r. ⌜ r ≡ used (drop from (now (s .entry))) ⌝ }
-{
-    let mut bad = false;
-    let mut k = from;
-    while k < s.len() {
-        bad = bad | (s[k] != 0);
-        k += 1;
-    }
-    bad
-}
-
-// Is a place past the last row not 0?
-fn places_used<'a>(
-    tasks: &'a [u32; 128],
-    handlers: &'a [u32; 32],
-    next: &'a [u64; 80],
-    owed: &'a [u64; 80],
-    n: usize,
-    m: usize,
-) -> bool
-    requires { ⌜ Fitting n m ⌝ }
-    ensures { λ r. ⌜ r ≡ (used (drop (2 * n) (now (tasks .entry))) || used (drop (2 * m) (now (handlers .entry))) || used (drop (n + m) (now (next .entry))) || used (drop (n + m) (now (owed .entry)))) ⌝ }
-{
-    let t = used_numbers(tasks, 2 * n);
-    let h = used_numbers(handlers, 2 * m);
-    let x = used_ticks(next, n + m);
-    let o = used_ticks(owed, n + m);
-    t | h | x | o
 }
 
 // Is a next arrival above clock + period?
@@ -252,7 +206,7 @@ pub fn out_of_bounds<'a>(
     if figures_outside(tasks, handlers, n, m) {
         return true;
     }
-    if places_used(tasks, handlers, next, owed, n, m) {
+    if places::places_used(tasks, handlers, next, owed, n, m) {
         return true;
     }
     if Run::TICKS_MOST < clock {

@@ -2,6 +2,7 @@
 mod arrivals;
 mod begin;
 mod bounds;
+mod places;
 mod refusal;
 mod rows;
 mod tick;

@@ -1,6 +1,7 @@
 // The tick: who runs, what that leaves owed, who is late.
 ghost use mathlib.Core.Path.{_≡_};
 ghost use Prim.Native.Nat.{_+_, _<_, _≤_};
+ghost use Rattle.demand.specs.Limits.{ticksMost};
 ghost use Rattle.scheduler.specs.Machine.{dueOf};
 ghost use Rattle.scheduler.specs.Scans.{at};
 ghost use Rattle.scheduler.specs.Steps.{stepRefusal};
@@ -121,7 +122,7 @@ pub fn is_task(late: Late) -> bool
 
 // The run one tick on, and the answer.
 fn closed(run: Run, next: [u64; 80], owed: [u64; 80], ran: Ran, over: bool, late: Late) -> Stepped
-    requires { ⌜ run .clock < 1000000000 ⌝ }
+    requires { ⌜ run .clock < ticksMost ⌝ }
     ensures { λ r. ⌜ r ≡ closed run next owed ran over late ⌝ }
 {
     let tasks = run.tasks;

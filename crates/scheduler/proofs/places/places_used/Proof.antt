@@ -1,6 +1,6 @@
 use borrow.Author.Needs.{needs}
-use Rattle.scheduler.proofs.bounds.places_used.Statement.{statement}
-use Rattle.scheduler.proofs.bounds.places_used.Tie as tie
+use Rattle.scheduler.proofs.places.places_used.Statement.{statement}
+use Rattle.scheduler.proofs.places.places_used.Tie as tie
 
 mul-used-numbers : tie.Need-mul-used-numbers
 mul-used-numbers c = search needs

@@ -5,8 +5,8 @@ use Prim.Native.Nat.{_≤_, _-_}
 use lib.ListN.{length, drop}
 use Rattle.scheduler.specs.Scans.{used}
 use Rattle.scheduler.proofs.Scan.{used-turn, used-end}
-use Rattle.scheduler.proofs.bounds.used_numbers.Statement.{statement}
-use Rattle.scheduler.proofs.bounds.used_numbers.Tie as tie
+use Rattle.scheduler.proofs.places.used_numbers.Statement.{statement}
+use Rattle.scheduler.proofs.places.used_numbers.Tie as tie
 
 abbrev Inv-loop : tie.InvT-loop
 Inv-loop s from bad₀ k₀ bad k = (k ≤ length s) × ((bad || used (drop k s)) ≡ used (drop from s))
