@@ -12,13 +12,13 @@ use Rattle.scheduler.specs.Steps.{stepOf}
 use Rattle.scheduler.specs.Tick.{tickedBy}
 use Rattle.scheduler.specs.declared.Run.{Run}
 use Rattle.scheduler.specs.declared.Stepped.{Stepped}
-use Rattle.scheduler.proofs.Answers.{Passed, passed, step-ticks}
-use Rattle.scheduler.proofs.InBounds.{step-in-bounds, offered-in-bounds}
-use Rattle.scheduler.proofs.Joined.{Told, told}
-use Rattle.scheduler.proofs.Joined.Told.{accepted, unchanged}
-use Rattle.scheduler.proofs.Keeps.{Came}
-use Rattle.scheduler.proofs.Keeps.Came.{nothing, legal}
-use Rattle.scheduler.proofs.KeepsBounds.{nextNow, arrival}
+use Rattle.scheduler.proofs.Steps.Answers.{Passed, passed, step-ticks}
+use Rattle.scheduler.proofs.Reached.InBounds.{step-in-bounds, offered-in-bounds}
+use Rattle.scheduler.proofs.Join.Joined.{Told, told}
+use Rattle.scheduler.proofs.Join.Joined.Told.{accepted, unchanged}
+use Rattle.scheduler.proofs.Reached.Keeps.{Came}
+use Rattle.scheduler.proofs.Reached.Keeps.Came.{nothing, legal}
+use Rattle.scheduler.proofs.Reached.KeepsBounds.{nextNow, arrival}
 use Rattle.scheduler.proofs.LegalArrivals.{passed-legal, legal-arrivals}
 
 module _ (r : Run) (ws : List ℕ) where

@@ -26,7 +26,7 @@ use Rattle.scheduler.specs.Tick.{nextArrived, owedArrived, earliest, goe
 use Rattle.scheduler.specs.declared.Late.the-variants as late
 use Rattle.scheduler.specs.declared.Start.the-variants.{Ready}
 use Rattle.scheduler.proofs.Apart.{period-apart}
-use Rattle.scheduler.proofs.InBounds.{fresh-in-bounds}
+use Rattle.scheduler.proofs.Reached.InBounds.{fresh-in-bounds}
 use Rattle.scheduler.proofs.LateExactly.{late-exactly}
 use Rattle.scheduler.proofs.LegalArrivals.{legal-arrivals}
 use Rattle.scheduler.proofs.NeverLate.{never-late}

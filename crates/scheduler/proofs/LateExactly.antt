@@ -20,11 +20,11 @@ use Rattle.scheduler.specs.Steps.{stepOf}
 use Rattle.scheduler.specs.Tick.{lateRow}
 use Rattle.scheduler.specs.View.{viewOf}
 use Rattle.scheduler.specs.declared.Run.{Run}
-use Rattle.scheduler.proofs.FreshView.{fresh-run, fresh-going}
-use Rattle.scheduler.proofs.Joined.{step-late, on-time-going, late-over}
-use Rattle.scheduler.proofs.Least.{sync-clock, on-time-below, late-at}
-use Rattle.scheduler.proofs.Named.{named-table, named-shortest, named-soon}
-use Rattle.scheduler.proofs.SyncRun.{Synced, sync-next, synced-fresh, synced-clock, synced-accepted, synced-next}
+use Rattle.scheduler.proofs.Join.FreshView.{fresh-run, fresh-going}
+use Rattle.scheduler.proofs.Join.Joined.{step-late, on-time-going, late-over}
+use Rattle.scheduler.proofs.Machine.Least.{sync-clock, on-time-below, late-at}
+use Rattle.scheduler.proofs.Join.Named.{named-table, named-shortest, named-soon}
+use Rattle.scheduler.proofs.Join.SyncRun.{Synced, sync-next, synced-fresh, synced-clock, synced-accepted, synced-next}
 
 module _ (t h : List ℕ) (e : tableRefusal t h ≡ 0) where
   abbrev ts : List Row

@@ -16,11 +16,11 @@ use Rattle.scheduler.specs.Steps.{early, heavy, stepBy}
 use Rattle.scheduler.specs.Tick.{tickedBy}
 use Rattle.scheduler.specs.declared.Run.{Run}
 use Rattle.scheduler.specs.declared.Stepped.{Stepped}
-use Rattle.scheduler.proofs.Answers.{Passed, passed, refusal-0, step-ticks}
-use Rattle.scheduler.proofs.Keeps.{Came}
-use Rattle.scheduler.proofs.Keeps.Came.{nothing, legal}
-use Rattle.scheduler.proofs.KeepsBounds.{nextNow, arrival}
-use Rattle.scheduler.proofs.Scan.{any-false}
+use Rattle.scheduler.proofs.Steps.Answers.{Passed, passed, refusal-0, step-ticks}
+use Rattle.scheduler.proofs.Reached.Keeps.{Came}
+use Rattle.scheduler.proofs.Reached.Keeps.Came.{nothing, legal}
+use Rattle.scheduler.proofs.Reached.KeepsBounds.{nextNow, arrival}
+use Rattle.scheduler.proofs.Steps.Scan.{any-false}
 
 -- What no refusal of 10 or 11 says of one row.
 module _ (r : Run) (ws : List ℕ) (shaped : Shaped r) (p : Passed r ws) (k : ℕ) (l : k < rowCount r) where

@@ -19,13 +19,13 @@ use Rattle.scheduler.specs.Start.{freshRun}
 use Rattle.scheduler.specs.Steps.{stepBy}
 use Rattle.scheduler.specs.View.{viewOf, offerOf}
 use Rattle.scheduler.specs.declared.Run.{Run}
-use Rattle.scheduler.proofs.Answers.{passed}
-use Rattle.scheduler.proofs.FreshView.{fresh-run, fresh-sound, fresh-going, fresh-view}
-use Rattle.scheduler.proofs.InBounds.{step-in-bounds}
-use Rattle.scheduler.proofs.Invariant.{Kept, fresh-kept, tick-kept, safe-on-time}
-use Rattle.scheduler.proofs.Joined.{Told, told, step-view, on-time-going}
-use Rattle.scheduler.proofs.Joined.Told.{accepted, unchanged}
-use Rattle.scheduler.proofs.ViewArrives.{passed-tick}
+use Rattle.scheduler.proofs.Steps.Answers.{passed}
+use Rattle.scheduler.proofs.Join.FreshView.{fresh-run, fresh-sound, fresh-going, fresh-view}
+use Rattle.scheduler.proofs.Reached.InBounds.{step-in-bounds}
+use Rattle.scheduler.proofs.Machine.Invariant.{Kept, fresh-kept, tick-kept, safe-on-time}
+use Rattle.scheduler.proofs.Join.Joined.{Told, told, step-view, on-time-going}
+use Rattle.scheduler.proofs.Join.Joined.Told.{accepted, unchanged}
+use Rattle.scheduler.proofs.Join.ViewArrives.{passed-tick}
 
 module _ (ts hs : List Row) (pt : Valid ts) (ph : Positive hs) (passes : (l : ℕ) → 1 ≤ l → Passes ts hs l) where
   pub record Sure (r : Run) : Type 0 where

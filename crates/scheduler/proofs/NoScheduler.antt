@@ -14,10 +14,10 @@ use Rattle.verdict.specs.declared.Answer.{Answer}
 use Rattle.scheduler.specs.Guarantees.{NoScheduler, OursIsOne, Met, Optimal}
 use Rattle.scheduler.specs.Machine.{dueOf, pick}
 use Rattle.scheduler.specs.Schedules.{sync}
-use Rattle.scheduler.proofs.Least.{sync-timely, on-time-below}
-use Rattle.scheduler.proofs.Named.{named-valid, named-positive, named-shortest}
-use Rattle.scheduler.proofs.No.{fails-untimely}
-use Rattle.scheduler.proofs.Sync.{pick-ran}
+use Rattle.scheduler.proofs.Machine.Least.{sync-timely, on-time-below}
+use Rattle.scheduler.proofs.Join.Named.{named-valid, named-positive, named-shortest}
+use Rattle.scheduler.proofs.Machine.No.{fails-untimely}
+use Rattle.scheduler.proofs.Machine.Sync.{pick-ran}
 
 pub no-scheduler : NoScheduler
 no-scheduler t h r says word xs ys run =

@@ -14,12 +14,12 @@ use Rattle.scheduler.specs.Machine.{State, dueOf, idle, pick, OnTime}
 use Rattle.scheduler.specs.Schedules.{Timely, syncBy, sync}
 use Rattle.scheduler.specs.View.{viewOf}
 use Rattle.scheduler.specs.declared.Run.{Run}
-use Rattle.scheduler.proofs.FreshBounds.{ready}
-use Rattle.scheduler.proofs.Invariant.{idle-before, on-time}
-use Rattle.scheduler.proofs.Joined.{going-on-time}
-use Rattle.scheduler.proofs.Least.{sync-clock, sync-timely}
-use Rattle.scheduler.proofs.Sync.{pick-ran}
-use Rattle.scheduler.proofs.SyncRun.{Synced, sync-next, synced-accepted, going-before, synced}
+use Rattle.scheduler.proofs.Reached.FreshBounds.{ready}
+use Rattle.scheduler.proofs.Machine.Invariant.{idle-before, on-time}
+use Rattle.scheduler.proofs.Join.Joined.{going-on-time}
+use Rattle.scheduler.proofs.Machine.Least.{sync-clock, sync-timely}
+use Rattle.scheduler.proofs.Machine.Sync.{pick-ran}
+use Rattle.scheduler.proofs.Join.SyncRun.{Synced, sync-next, synced-accepted, going-before, synced}
 
 module _ (t h : List ℕ) (e : tableRefusal t h ≡ 0) where
   abbrev ts : List Row

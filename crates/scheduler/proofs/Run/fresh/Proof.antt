@@ -1,6 +1,6 @@
 use mathlib.Core.Path.{sym, _∙_}
 use borrow.Author.Needs.{needs}
-use Rattle.scheduler.proofs.Tables.{fresh-ready, fresh-refused}
+use Rattle.scheduler.proofs.Steps.Tables.{fresh-ready, fresh-refused}
 use Rattle.scheduler.proofs.Run.fresh.Statement.{statement}
 use Rattle.scheduler.proofs.Run.fresh.Tie as tie
 

@@ -1,6 +1,6 @@
 use mathlib.Core.Path.{sym, _∙_}
 use borrow.Author.Needs.{needs}
-use Rattle.scheduler.proofs.Answers.{step-ticks, step-refused}
+use Rattle.scheduler.proofs.Steps.Answers.{step-ticks, step-refused}
 use Rattle.scheduler.proofs.Run.step.Statement.{statement}
 use Rattle.scheduler.proofs.Run.step.Tie as tie
 

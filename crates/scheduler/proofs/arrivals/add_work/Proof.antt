@@ -5,7 +5,7 @@ use Prim.Native.Nat.{_+_, _≤_, _-_}
 use lib.ListN.{length, getD}
 use Rattle.scheduler.specs.Scans.{filled}
 use Rattle.scheduler.specs.Tick.{owedArrived}
-use Rattle.scheduler.proofs.Scan.{filled-zero, filled-old, filled-turn, filled-end}
+use Rattle.scheduler.proofs.Steps.Scan.{filled-zero, filled-old, filled-turn, filled-end}
 use Rattle.scheduler.proofs.arrivals.add_work.Statement.{statement}
 use Rattle.scheduler.proofs.arrivals.add_work.Tie as tie
 

@@ -7,8 +7,8 @@ use Rattle.demand.specs.Rows.{Row}
 use Rattle.scheduler.specs.Runs.{rowOn}
 use Rattle.scheduler.specs.Scans.{filled}
 use Rattle.scheduler.specs.Tick.{nextAfter, nextArrived}
-use Rattle.scheduler.proofs.RowPlaces.{fair-at}
-use Rattle.scheduler.proofs.Scan.{filled-zero, filled-old, filled-turn, filled-end}
+use Rattle.scheduler.proofs.Steps.RowPlaces.{fair-at}
+use Rattle.scheduler.proofs.Steps.Scan.{filled-zero, filled-old, filled-turn, filled-end}
 use Rattle.scheduler.proofs.arrivals.move_next.Statement.{statement}
 use Rattle.scheduler.proofs.arrivals.move_next.Tie as tie
 

@@ -4,7 +4,7 @@ use Prim.Native.Nat.{_≤_, _-_}
 use lib.ListN.{length}
 use Rattle.scheduler.specs.Scans.{any}
 use Rattle.scheduler.specs.Steps.{early}
-use Rattle.scheduler.proofs.Scan.{at-end, any-zero, any-turn}
+use Rattle.scheduler.proofs.Steps.Scan.{at-end, any-zero, any-turn}
 use Rattle.scheduler.proofs.arrivals.some_early.Statement.{statement}
 use Rattle.scheduler.proofs.arrivals.some_early.Tie as tie
 

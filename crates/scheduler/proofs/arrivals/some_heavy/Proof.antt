@@ -6,7 +6,7 @@ use Rattle.demand.specs.Rows.{Row}
 use Rattle.scheduler.specs.Runs.{rowOn}
 use Rattle.scheduler.specs.Scans.{any}
 use Rattle.scheduler.specs.Steps.{heavy}
-use Rattle.scheduler.proofs.Scan.{at-end, any-zero, any-turn}
+use Rattle.scheduler.proofs.Steps.Scan.{at-end, any-zero, any-turn}
 use Rattle.scheduler.proofs.arrivals.some_heavy.Statement.{statement}
 use Rattle.scheduler.proofs.arrivals.some_heavy.Tie as tie
 

@@ -4,7 +4,7 @@ use native.Mathlib.Omega.{arith}
 use borrow.Author.Needs.{needs}
 use Prim.Native.Nat.{_≤_, _-_}
 use lib.ListN.{length, take, drop}
-use Rattle.scheduler.proofs.Copies.{copy-turn, copy-end, copy-length}
+use Rattle.scheduler.proofs.Steps.Copies.{copy-turn, copy-end, copy-length}
 use Rattle.scheduler.proofs.begin.copy_in.Statement.{statement}
 use Rattle.scheduler.proofs.begin.copy_in.Tie as tie
 

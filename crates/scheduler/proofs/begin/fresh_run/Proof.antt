@@ -1,6 +1,6 @@
 use borrow.Author.Needs.{needs}
 use Rattle.scheduler.specs.Start.{zeros}
-use Rattle.scheduler.proofs.Tables.{tasks-fit, handlers-fit, fresh-made}
+use Rattle.scheduler.proofs.Steps.Tables.{tasks-fit, handlers-fit, fresh-made}
 use Rattle.scheduler.proofs.begin.fresh_run.Statement.{statement}
 use Rattle.scheduler.proofs.begin.fresh_run.Tie as tie
 

@@ -3,7 +3,7 @@ use borrow.Author.Needs.{needs}
 use Prim.Native.Nat.{_≤_, _-_}
 use Rattle.scheduler.specs.Bounds.{missed}
 use Rattle.scheduler.specs.Scans.{at, any}
-use Rattle.scheduler.proofs.Scan.{at-end, any-zero, any-turn}
+use Rattle.scheduler.proofs.Steps.Scan.{at-end, any-zero, any-turn}
 use Rattle.scheduler.proofs.bounds.deadline_missed.Statement.{statement}
 use Rattle.scheduler.proofs.bounds.deadline_missed.Tie as tie
 

@@ -5,7 +5,7 @@ use Rattle.demand.specs.Refusals.{rowOutside}
 use Rattle.scheduler.specs.Bounds.{outsideAt}
 use Rattle.scheduler.specs.Runs.{rowOn}
 use Rattle.scheduler.specs.Scans.{any}
-use Rattle.scheduler.proofs.Scan.{at-end, any-zero, any-turn}
+use Rattle.scheduler.proofs.Steps.Scan.{at-end, any-zero, any-turn}
 use Rattle.scheduler.proofs.bounds.figures_outside.Statement.{statement}
 use Rattle.scheduler.proofs.bounds.figures_outside.Tie as tie
 

@@ -6,8 +6,8 @@ use Rattle.demand.specs.Rows.{Row}
 use Rattle.scheduler.specs.Bounds.{tooMuchBehind}
 use Rattle.scheduler.specs.Runs.{rowOn}
 use Rattle.scheduler.specs.Scans.{any}
-use Rattle.scheduler.proofs.RowPlaces.{fits-product, fair-at}
-use Rattle.scheduler.proofs.Scan.{at-end, any-zero, any-turn}
+use Rattle.scheduler.proofs.Steps.RowPlaces.{fits-product, fair-at}
+use Rattle.scheduler.proofs.Steps.Scan.{at-end, any-zero, any-turn}
 use Rattle.scheduler.proofs.bounds.handler_too_much.Statement.{statement}
 use Rattle.scheduler.proofs.bounds.handler_too_much.Tie as tie
 

@@ -1,5 +1,5 @@
 use borrow.Author.Needs.{needs}
-use Rattle.scheduler.proofs.Scan.{or-false}
+use Rattle.scheduler.proofs.Steps.Scan.{or-false}
 use Rattle.scheduler.proofs.bounds.late_out.Statement.{statement}
 use Rattle.scheduler.proofs.bounds.late_out.Tie as tie
 

@@ -6,8 +6,8 @@ use Rattle.demand.specs.Rows.{Row}
 use Rattle.scheduler.specs.Bounds.{tooFar}
 use Rattle.scheduler.specs.Runs.{rowOn}
 use Rattle.scheduler.specs.Scans.{any}
-use Rattle.scheduler.proofs.RowPlaces.{fair-at}
-use Rattle.scheduler.proofs.Scan.{at-end, any-zero, any-turn}
+use Rattle.scheduler.proofs.Steps.RowPlaces.{fair-at}
+use Rattle.scheduler.proofs.Steps.Scan.{at-end, any-zero, any-turn}
 use Rattle.scheduler.proofs.bounds.next_too_far.Statement.{statement}
 use Rattle.scheduler.proofs.bounds.next_too_far.Tie as tie
 

@@ -1,6 +1,6 @@
 use mathlib.Core.Path.{sym, _∙_}
 use borrow.Author.Needs.{needs}
-use Rattle.scheduler.proofs.Clauses.{fitting, out-counts, out-figures, out-places, out-clock, out-rest}
+use Rattle.scheduler.proofs.Steps.Clauses.{fitting, out-counts, out-figures, out-places, out-clock, out-rest}
 use Rattle.scheduler.proofs.bounds.out_of_bounds.Statement.{statement}
 use Rattle.scheduler.proofs.bounds.out_of_bounds.Tie as tie
 

@@ -5,7 +5,7 @@ use Rattle.demand.specs.Rows.{Row}
 use Rattle.scheduler.specs.Bounds.{tooMuch}
 use Rattle.scheduler.specs.Runs.{rowOn}
 use Rattle.scheduler.specs.Scans.{any}
-use Rattle.scheduler.proofs.Scan.{at-end, any-zero, any-turn}
+use Rattle.scheduler.proofs.Steps.Scan.{at-end, any-zero, any-turn}
 use Rattle.scheduler.proofs.bounds.task_too_much.Statement.{statement}
 use Rattle.scheduler.proofs.bounds.task_too_much.Tie as tie
 

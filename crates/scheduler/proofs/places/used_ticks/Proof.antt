@@ -4,7 +4,7 @@ use borrow.Author.Needs.{needs}
 use Prim.Native.Nat.{_≤_, _-_}
 use lib.ListN.{length, drop}
 use Rattle.scheduler.specs.Scans.{used}
-use Rattle.scheduler.proofs.Scan.{used-turn, used-end}
+use Rattle.scheduler.proofs.Steps.Scan.{used-turn, used-end}
 use Rattle.scheduler.proofs.places.used_ticks.Statement.{statement}
 use Rattle.scheduler.proofs.places.used_ticks.Tie as tie
 

@@ -1,8 +1,8 @@
 use mathlib.Core.Path.{sym, _∙_}
 use native.Mathlib.Omega.{arith}
 use borrow.Author.Needs.{needs}
-use Rattle.scheduler.proofs.Answers.{refusal-6, refusal-7, refusal-8, refusal-9, refusal-10, refusal-11, refusal-0}
-use Rattle.scheduler.proofs.Clauses.{clauses, clauses-fit}
+use Rattle.scheduler.proofs.Steps.Answers.{refusal-6, refusal-7, refusal-8, refusal-9, refusal-10, refusal-11, refusal-0}
+use Rattle.scheduler.proofs.Steps.Clauses.{clauses, clauses-fit}
 use Rattle.scheduler.proofs.refusal.of_step.Statement.{statement}
 use Rattle.scheduler.proofs.refusal.of_step.Tie as tie
 

@@ -1,5 +1,5 @@
 use borrow.Author.Needs.{needs}
-use Rattle.scheduler.proofs.RowPlaces.{row-read}
+use Rattle.scheduler.proofs.Steps.RowPlaces.{row-read}
 use Rattle.scheduler.proofs.rows.row_of.Statement.{statement}
 use Rattle.scheduler.proofs.rows.row_of.Tie as tie
 

@@ -3,8 +3,8 @@ use borrow.Author.Needs.{needs}
 use Prim.Native.Nat.{_≤_, _-_}
 use Rattle.scheduler.specs.Scans.{at}
 use Rattle.scheduler.specs.Tick.{earliest}
-use Rattle.scheduler.proofs.Earliest.{earliest-zero, earliest-next}
-use Rattle.scheduler.proofs.Scan.{at-end}
+use Rattle.scheduler.proofs.Steps.Earliest.{earliest-zero, earliest-next}
+use Rattle.scheduler.proofs.Steps.Scan.{at-end}
 use Rattle.scheduler.proofs.tick.earliest.Statement.{statement}
 use Rattle.scheduler.proofs.tick.earliest.Tie as tie
 

@@ -5,7 +5,7 @@ use borrow.Author.Tests.{lt-ltb, le-ltb}
 use Prim.Native.Nat.{_≤_, _-_}
 use Rattle.scheduler.specs.Scans.{any}
 use Rattle.scheduler.specs.Tick.{owedAt, goesTo}
-use Rattle.scheduler.proofs.Scan.{any-zero, any-skip, first-none, first-here, at-end}
+use Rattle.scheduler.proofs.Steps.Scan.{any-zero, any-skip, first-none, first-here, at-end}
 use Rattle.scheduler.proofs.tick.goes_to.Statement.{statement}
 use Rattle.scheduler.proofs.tick.goes_to.Tie as tie
 

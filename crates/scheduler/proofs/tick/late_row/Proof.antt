@@ -4,7 +4,7 @@ use borrow.Author.Needs.{needs}
 use Prim.Native.Nat.{_≤_, _-_}
 use Rattle.scheduler.specs.Scans.{at, any}
 use Rattle.scheduler.specs.Tick.{isLate, lateRow}
-use Rattle.scheduler.proofs.Scan.{any-zero, any-skip, first-none, first-here, at-end}
+use Rattle.scheduler.proofs.Steps.Scan.{any-zero, any-skip, first-none, first-here, at-end}
 use Rattle.scheduler.proofs.tick.late_row.Statement.{statement}
 use Rattle.scheduler.proofs.tick.late_row.Tie as tie
 

@@ -2,7 +2,7 @@ use mathlib.Core.Path.{sym, ap}
 use native.Mathlib.Omega.{arith}
 use borrow.Author.Needs.{needs}
 use Rattle.scheduler.specs.Tick.{paid}
-use Rattle.scheduler.proofs.Goes.{handler-pays, task-pays}
+use Rattle.scheduler.proofs.Steps.Goes.{handler-pays, task-pays}
 use Rattle.scheduler.proofs.tick.pay.Statement.{statement}
 use Rattle.scheduler.proofs.tick.pay.Tie as tie
 

@@ -1,10 +1,10 @@
 use mathlib.Core.Path.{_∙_}
 use native.Mathlib.Omega.{arith}
 use borrow.Author.Needs.{needs}
-use Rattle.scheduler.proofs.Answers.{passed}
-use Rattle.scheduler.proofs.Clauses.{clauses, clauses-fit, clauses-clock, clauses-owed}
-use Rattle.scheduler.proofs.Goes.{goes-to, goes-pays}
-use Rattle.scheduler.proofs.Ticks.{tick-made}
+use Rattle.scheduler.proofs.Steps.Answers.{passed}
+use Rattle.scheduler.proofs.Steps.Clauses.{clauses, clauses-fit, clauses-clock, clauses-owed}
+use Rattle.scheduler.proofs.Steps.Goes.{goes-to, goes-pays}
+use Rattle.scheduler.proofs.Steps.Ticks.{tick-made}
 use Rattle.scheduler.proofs.tick.ticked.Statement.{statement}
 use Rattle.scheduler.proofs.tick.ticked.Tie as tie
 

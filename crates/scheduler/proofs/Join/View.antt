@@ -1,0 +1,69 @@
+-- The rows of a run are the rows of its state, place by place.
+--   Rows r a n rs   rs are the n rows of run r from place a on
+use mathlib.Core.List.{List}
+use mathlib.Core.Path.{_≡_, sym, _∙_}
+use native.Mathlib.Nat.{zero-add}
+use native.Mathlib.Omega.{arith}
+use borrow.Author.Tests.{lt-ltb, le-ltb}
+use Prim.Native.Nat.{ℕ, _+_, _-_, _*_, _≤_, _<_}
+use lib.ListN.{length, take}
+use lib.Seq.{length-take-le, getD-take}
+use Rattle.demand.proofs.Places.{rows-take}
+use Rattle.demand.proofs.Slices.{rows-count}
+use Rattle.demand.specs.Rows.{Row, rowsOf, rowAt, noRow}
+use Rattle.scheduler.specs.Places.{Fits}
+use Rattle.scheduler.specs.Reached.{Sound}
+use Rattle.scheduler.specs.Runs.{rowIn, taskRows, handlerRows, Fitting}
+use Rattle.scheduler.specs.View.{part}
+use Rattle.scheduler.specs.declared.Run.{Run}
+use Rattle.scheduler.proofs.Steps.Clauses.{clauses, clauses-fit}
+use Rattle.scheduler.proofs.Join.Parts.{part-length}
+
+pub record Rows (r : Run) (a n : ℕ) (rs : List Row) : Type 0 where
+  pub count : length rs ≡ n
+  pub within : a + n ≤ 80
+  pub row-at : (i : ℕ) → i < n → rowAt rs i ≡ rowIn r (a + i)
+
+-- They are as many as they should be, and the row at each place stays.
+taken-count : (s : List ℕ) (n : ℕ) → 2 * n ≤ length s → length (rowsOf (take (2 * n) s)) ≡ n
+taken-count s n long = rw (rows-take s n) (length-take-le n (rowsOf s) (omega (arith, rows-count s)))
+
+taken-row : (s : List ℕ) (n i : ℕ) → i < n → rowAt (rowsOf (take (2 * n) s)) i ≡ rowAt (rowsOf s) i
+taken-row s n i l = rw (rows-take s n) (getD-take n (rowsOf s) i noRow l)
+
+-- A run in bounds has places for its rows.
+pub sound-fits : (r : Run) → Sound r → Fitting (r .«task_count») (r .«handler_count»)
+sound-fits r s = clauses-fit r (clauses r (s .in-bounds))
+
+module _ (r : Run) (s : Sound r) where
+  pub task-rows : Rows r 0 (r .«task_count») (taskRows r)
+  unfolding taskRows
+  task-rows =
+      let n : ℕ = r .«task_count» in
+      let few : n ≤ 64 = sound-fits r s .tasks in
+      record {
+        count = taken-count (r .tasks) n (omega (arith, s .shaped .tasks-128));
+        within = omega arith;
+        row-at = λ i l. rw (zero-add i, lt-ltb i n l) (taken-row (r .tasks) n i l);
+      }
+
+  pub handler-rows : Rows r (r .«task_count») (r .«handler_count») (handlerRows r)
+  unfolding handlerRows
+  handler-rows =
+      let n : ℕ = r .«task_count» in
+      let m : ℕ = r .«handler_count» in
+      let fit = sound-fits r s in
+      record {
+        count = taken-count (r .handlers) m (omega (arith, s .shaped .handlers-32, fit .handlers));
+        within = omega (arith, fit .tasks, fit .handlers);
+        row-at = λ i l.
+            let behind : n + i - n ≡ i = omega arith in
+            rw (le-ltb (n + i) n (omega arith), behind) (taken-row (r .handlers) m i l);
+      }
+
+-- Parts of lists of 80 numbers fit them.
+pub rows-fit : {r : Run} {a n : ℕ} {rs : List Row} → Rows r a n rs → (ns os : List ℕ) → length ns ≡ 80 → length os ≡ 80 → Fits rs (part a n ns) (part a n os)
+rows-fit {r} {a} {n} {rs} w ns os ln lo = record {
+  nexts = part-length a n ns (omega (arith, w .within)) ∙ sym (w .count);
+  owes = part-length a n os (omega (arith, w .within)) ∙ sym (w .count);
+}

@@ -1,0 +1,120 @@
+-- Arrivals of a run are arrivals of its state, and what is accepted is what is legal there.
+use mathlib.Core.Bool.{false}
+use mathlib.Core.List.{List}
+use mathlib.Core.Logic.{_⊎_, inl, inr}
+use mathlib.Core.Path.{_≡_, sym, _∙_}
+use native.Mathlib.Nat.{zero-add, eq-zero-or-pos}
+use native.Mathlib.Omega.{arith}
+use Prim.Native.Nat.{ℕ, _+_, _-_, _≤_, _<_}
+use lib.ListN.{length, getD}
+use Rattle.demand.proofs.Divide.{le-or-lt}
+use Rattle.demand.specs.Limits.{ticksMost}
+use Rattle.demand.specs.Rows.{Row}
+use Rattle.scheduler.specs.Guarantees.{Accepted, LegalArrival}
+use Rattle.scheduler.specs.Machine.{arriveAll, LegalAll, LegalTick}
+use Rattle.scheduler.specs.Places.{liveOf, Fits}
+use Rattle.scheduler.specs.Reached.{Sound}
+use Rattle.scheduler.specs.Runs.{rowIn, rowCount, taskRows, handlerRows}
+use Rattle.scheduler.specs.Tick.{nextArrived}
+use Rattle.scheduler.specs.View.{part, seen, viewOf, offerOf}
+use Rattle.scheduler.specs.declared.Run.{Run}
+use Rattle.scheduler.proofs.Steps.Answers.{Passed}
+use Rattle.scheduler.proofs.Machine.FlatArrive.{arrive-flat, legal-flat}
+use Rattle.scheduler.proofs.Join.FlatFacts.{flat-legal}
+use Rattle.scheduler.proofs.Reached.KeepsBounds.{nextNow, owedNow, owed-at, owed-length}
+use Rattle.scheduler.proofs.LegalArrivals.{passed-legal, passed-moves, passed-waits, legal-accepted}
+use Rattle.scheduler.proofs.Join.Parts.{part-length, part-at}
+use Rattle.scheduler.proofs.Steps.Scan.{length-filled}
+use Rattle.scheduler.proofs.Join.View.{Rows, rows-fit, task-rows, handler-rows}
+
+-- ---- what is legal
+
+module _ (r : Run) (ws : List ℕ) (s : Sound r) (count : length ws ≡ rowCount r) where
+  abbrev LegalAt : ℕ → Type 0
+  LegalAt k = LegalArrival r k (getD ws k 0)
+
+  -- Of the rows rs, which are those from place a on: legal at each place, so in the state.
+  part-legal : (a n : ℕ) (rs : List Row) → Rows r a n rs → a + n ≤ rowCount r → ((k : ℕ) → k < rowCount r → LegalAt k)
+      → LegalAll (r .clock) (part a n ws) (liveOf rs (part a n (r .next)) (part a n (r .owed)))
+  part-legal a n rs w inside each =
+      legal-flat (r .clock) (part a n ws) rs (part a n (r .next)) (part a n (r .owed))
+      (λ j l some.
+      let below : j < n = omega (arith, part-length a n ws (omega arith)) in
+      rw (part-at a n ws j below, w .row-at j below, part-at a n (r .next) j below)
+      (each (a + j) (omega arith) .in-time (rw (part-at a n ws j below) at some), each (a + j) (omega arith) .in-cost))
+
+  -- And the reverse.
+  legal-part : (a n : ℕ) (rs : List Row) → Rows r a n rs → a + n ≤ rowCount r
+      → LegalAll (r .clock) (part a n ws) (liveOf rs (part a n (r .next)) (part a n (r .owed))) → (j : ℕ) → j < n → LegalAt (a + j)
+  legal-part a n rs w inside legal j l = go (eq-zero-or-pos (getD ws (a + j) 0))
+    where
+      fits : Fits rs (part a n (r .next)) (part a n (r .owed))
+      fits = rows-fit w (r .next) (r .owed) (s .shaped .next-80) (s .shaped .owed-80)
+
+      at-place : 0 < getD ws (a + j) 0 → (getD (r .next) (a + j) 0 ≤ r .clock) × (getD ws (a + j) 0 ≤ rowIn r (a + j) .cost)
+      at-place some =
+          rw (part-at a n ws j l, w .row-at j l, part-at a n (r .next) j l) at
+          (flat-legal (r .clock) (part a n ws) rs (part a n (r .next)) (part a n (r .owed)) (part-length a n ws (omega arith) ∙ sym (w .count)) fits legal j
+          (omega (arith, w .count)) (rw (part-at a n ws j l) some))
+
+      go : (getD ws (a + j) 0 ≡ 0) ⊎ (0 < getD ws (a + j) 0) → LegalAt (a + j)
+      go (inl none) = record { in-time = λ some. absurd (omega arith); in-cost = omega arith }
+      go (inr work) = record { in-time = λ some. at-place work .0; in-cost = at-place work .1 }
+
+  pub each-legal : ((k : ℕ) → k < rowCount r → LegalAt k) → LegalTick (offerOf r ws) (viewOf r)
+  each-legal each = (
+    part-legal 0 (r .«task_count») (taskRows r) (task-rows r s) (omega arith) each,
+    part-legal (r .«task_count») (r .«handler_count») (handlerRows r) (handler-rows r s) (omega arith) each,
+  )
+
+  pub legal-each : LegalTick (offerOf r ws) (viewOf r) → (k : ℕ) → k < rowCount r → LegalAt k
+  legal-each legal k l = go (le-or-lt (r .«task_count») k)
+    where
+      go : (r .«task_count» ≤ k) ⊎ (k < r .«task_count») → LegalAt k
+      go (inl behind) =
+          let i : ℕ = k - r .«task_count» in
+          let same : r .«task_count» + i ≡ k = omega arith in
+          rw same at (legal-part (r .«task_count») (r .«handler_count») (handlerRows r) (handler-rows r s) (omega arith) (legal .1) i (omega arith))
+      go (inr front) = rw (zero-add k) at (legal-part 0 (r .«task_count») (taskRows r) (task-rows r s) (omega arith) (legal .0) k front)
+
+-- So an accepted step has legal arrivals, ..
+pub passed-tick : (r : Run) (ws : List ℕ) → Sound r → Passed r ws → LegalTick (offerOf r ws) (viewOf r)
+passed-tick r ws s p = each-legal r ws s (p .count) (λ k l. passed-legal r ws (s .shaped) p k l)
+
+-- .. and legal arrivals are accepted.
+pub tick-accepted : (r : Run) (ws : List ℕ) → Sound r → r .over ≡ false → r .clock < ticksMost → length ws ≡ rowCount r → LegalTick (offerOf r ws) (viewOf r) → Accepted r ws
+tick-accepted r ws s going soon count legal = legal-accepted r ws s going soon count (legal-each r ws s count legal)
+
+-- ---- what they make of the state
+
+module _ (r : Run) (ws : List ℕ) (s : Sound r) (p : Passed r ws) where
+  pub next-length : length (nextNow r ws (s .shaped) p) ≡ 80
+  unfolding nextArrived
+  next-length = length-filled _ (rowCount r) (r .next) ∙ s .shaped .next-80
+
+  -- Of the rows rs, which are those from place a on.
+  part-arrives : (a n : ℕ) (rs : List Row) → Rows r a n rs → a + n ≤ rowCount r
+      → arriveAll (r .clock) (part a n ws) (liveOf rs (part a n (r .next)) (part a n (r .owed)))
+      ≡ liveOf rs (part a n (nextNow r ws (s .shaped) p)) (part a n (owedNow r ws (s .shaped) p))
+  part-arrives a n rs w inside =
+      let next = nextNow r ws (s .shaped) p in
+      let owed = owedNow r ws (s .shaped) p in
+      arrive-flat (r .clock) (part a n ws) rs (part a n (r .next)) (part a n (r .owed)) (part a n next) (part a n owed)
+      (part-length a n ws (omega (arith, p .count)) ∙ sym (w .count))
+      (rows-fit w (r .next) (r .owed) (s .shaped .next-80) (s .shaped .owed-80))
+      (rows-fit w next owed next-length (owed-length r ws (s .shaped) p))
+      (λ j l.
+      let below : j < n = omega (arith, w .count) in
+      let k : a + j < rowCount r = omega arith in
+      rw (part-at a n ws j below, w .row-at j below, part-at a n (r .next) j below, part-at a n (r .owed) j below, part-at a n next j below, part-at a n owed j below)
+      (record {
+        stays = passed-waits r ws (s .shaped) p (a + j) k;
+        moves = passed-moves r ws (s .shaped) p (a + j) k;
+        adds = owed-at r ws (s .shaped) p (a + j) k;
+      }))
+
+  pub tasks-arrive : arriveAll (r .clock) (offerOf r ws .toTasks) (viewOf r .tasks) ≡ seen r (r .clock) (nextNow r ws (s .shaped) p) (owedNow r ws (s .shaped) p) .tasks
+  tasks-arrive = part-arrives 0 (r .«task_count») (taskRows r) (task-rows r s) (omega arith)
+
+  pub handlers-arrive : arriveAll (r .clock) (offerOf r ws .toHandlers) (viewOf r .handlers) ≡ seen r (r .clock) (nextNow r ws (s .shaped) p) (owedNow r ws (s .shaped) p) .handlers
+  handlers-arrive = part-arrives (r .«task_count») (r .«handler_count») (handlerRows r) (handler-rows r s) (omega arith)

@@ -1,0 +1,12 @@
+-- The machine over rows at work: what it keeps, when it is late, and what no schedule can do.
+pub mod Room
+pub mod Invariant
+pub mod FullArrivals
+pub mod Beats
+pub mod No
+pub mod Least
+pub mod Choice
+pub mod Sync
+pub mod Flat
+pub mod FlatArrive
+pub mod Examples

@@ -1,0 +1,129 @@
+-- An accepted step of a run in bounds hands back a run in bounds, clause by clause, whoever of those owed work runs.
+use mathlib.Core.Bool.{Bool, true, false}
+use mathlib.Core.List.{List}
+use mathlib.Core.Path.{_≡_, refl, sym, ap, subst, _∙_}
+use native.Mathlib.Nat.{add-mul, one-mul}
+use native.Mathlib.Omega.{arith}
+use borrow.Author.Tests.{ltb-true, ltb-false, le-ltb}
+use Prim.Native.Nat.{ℕ, _+_, _*_, _≤_, _<_}
+use lib.Dec.{ltb}
+use lib.ListN.{length, getD, drop}
+use Rattle.demand.specs.Limits.{ticksMost}
+use Rattle.scheduler.specs.Bounds.{placesUsed, tooFar, tooMuch, tooMuchBehind, missed, InBounds}
+use Rattle.scheduler.specs.Runs.{rowIn, rowCount, dueWith, dueIn, Shaped}
+use Rattle.scheduler.specs.Steps.{early, heavy}
+use Rattle.scheduler.specs.Tick.{nextAfter, nextArrived, owedArrived, GoesTo, served}
+use Rattle.scheduler.specs.declared.Ran.{Ran}
+use Rattle.scheduler.specs.declared.Run.{Run}
+use Rattle.scheduler.proofs.Steps.Answers.{Passed}
+use Rattle.scheduler.proofs.Steps.Clauses.{Clauses, clauses, in-bounds, clauses-fit, clauses-fair, clauses-next, clauses-task, clauses-handler, clauses-due}
+use Rattle.scheduler.proofs.Reached.Keeps.{Came, came, paid-le, paid-length, paid-drop, names-same, not-named, nobody-late, not-missed}
+use Rattle.scheduler.proofs.Reached.Keeps.Came.{nothing, legal}
+use Rattle.scheduler.proofs.Steps.Scan.{any-at, any-false, length-filled, filled-below, filled-drop}
+
+module _ (r : Run) (ws : List ℕ) (shaped : Shaped r) (p : Passed r ws) where
+  abbrev pub nextNow : List ℕ
+  nextNow = nextArrived (r .clock) (rowIn r) ws (rowCount r) (r .next)
+
+  abbrev pub owedNow : List ℕ
+  owedNow = owedArrived ws (rowCount r) (r .owed)
+
+  before : Clauses r
+  before = clauses r (p .in-bounds)
+
+  pub few : rowCount r ≤ 80
+  few = let fit = clauses-fit r before in omega (arith, fit .tasks, fit .handlers)
+
+  pub next-at : (k : ℕ) → k < rowCount r → getD nextNow k 0 ≡ nextAfter (r .clock) (rowIn r k) (getD ws k 0) (getD (r .next) k 0)
+  unfolding nextArrived
+  next-at k l = filled-below (λ j. nextAfter (r .clock) (rowIn r j) (getD ws j 0) (getD (r .next) j 0)) (rowCount r) k (r .next) l (omega (arith, few, shaped .next-80))
+
+  pub owed-at : (k : ℕ) → k < rowCount r → getD owedNow k 0 ≡ getD (r .owed) k 0 + getD ws k 0
+  unfolding owedArrived
+  owed-at k l = filled-below (λ j. getD (r .owed) j 0 + getD ws j 0) (rowCount r) k (r .owed) l (omega (arith, few, shaped .owed-80))
+
+  pub owed-length : length owedNow ≡ 80
+  unfolding owedArrived
+  owed-length = length-filled _ (rowCount r) (r .owed) ∙ shaped .owed-80
+
+  pub arrival : (k : ℕ) → k < rowCount r → Came (r .clock) (rowIn r k) (getD (r .next) k 0) (getD ws k 0) (getD nextNow k 0)
+  arrival k l =
+      subst (Came (r .clock) (rowIn r k) (getD (r .next) k 0) (getD ws k 0)) (sym (next-at k l))
+      (came (r .clock) (rowIn r k) (getD (r .next) k 0) (getD ws k 0)
+      (any-at (early (r .clock) (r .next) ws) (rowCount r) k (p .timely) l)
+      (any-at (heavy (rowIn r) ws) (rowCount r) k (p .light) l))
+
+  module _ (key : ℕ → ℕ) (ran : Ran) (goes : GoesTo key owedNow (r .«task_count») (r .«handler_count») ran) where
+    abbrev after : Run
+    after = served r nextNow owedNow ran .run
+
+    owed-le : (k : ℕ) → k < rowCount r → getD (after .owed) k 0 ≤ getD (r .owed) k 0 + getD ws k 0
+    owed-le k l = omega (arith, paid-le owedNow (r .«task_count») ran k, owed-at k l)
+
+    places : placesUsed after ≡ false
+    places =
+        let next : drop (rowCount r) nextNow ≡ drop (rowCount r) (r .next) = unfold nextArrived in filled-drop _ (rowCount r) (rowCount r) (r .next) (omega arith) in
+        let arrived : drop (rowCount r) owedNow ≡ drop (rowCount r) (r .owed) = unfold owedArrived in filled-drop _ (rowCount r) (rowCount r) (r .owed) (omega arith) in
+        let owed = paid-drop key owedNow (r .«task_count») (r .«handler_count») ran goes ∙ arrived in
+        rw (next, owed) (before .places)
+
+    -- A next arrival is at most a period ahead.
+    next-near : (k : ℕ) → k < rowCount r → getD nextNow k 0 ≤ r .clock + 1 + rowIn r k .period
+    next-near k l = go (arrival k l)
+      where
+        go : Came (r .clock) (rowIn r k) (getD (r .next) k 0) (getD ws k 0) (getD nextNow k 0) → getD nextNow k 0 ≤ r .clock + 1 + rowIn r k .period
+        go (nothing none same) = omega (arith, same, clauses-next r before k l)
+        go (legal some moved early light) = omega (arith, moved)
+
+    -- A task's arrival is legal only once nothing is owed.
+    task-owed : (k : ℕ) → k < r .«task_count» → getD (after .owed) k 0 ≤ rowIn r k .cost
+    task-owed k l = go (arrival k (omega arith)) (ltb 0 (getD (r .owed) k 0)) refl
+      where
+        go : Came (r .clock) (rowIn r k) (getD (r .next) k 0) (getD ws k 0) (getD nextNow k 0) → (b : Bool) → ltb 0 (getD (r .owed) k 0) ≡ b
+            → getD (after .owed) k 0 ≤ rowIn r k .cost
+        go (nothing none same) b e = omega (arith, none, owed-le k (omega arith), clauses-task r before k l)
+        go (legal some moved early light) true e = absurd (omega (arith, clauses-due r before (p .going) k l (ltb-true 0 (getD (r .owed) k 0) e)))
+        go (legal some moved early light) false e = omega (arith, light, owed-le k (omega arith), ltb-false 0 (getD (r .owed) k 0) e)
+
+    handler-owed : (i : ℕ) → i < r .«handler_count» → getD (after .owed) (r .«task_count» + i) 0 ≤ (r .clock + 1) * rowIn r (r .«task_count» + i) .cost
+    handler-owed i l =
+        let k : ℕ = r .«task_count» + i in
+        let cost : ℕ = rowIn r k .cost in
+        let product : (r .clock + 1) * cost ≡ r .clock * cost + cost = add-mul (r .clock) 1 cost ∙ ap (λ (x : ℕ). r .clock * cost + x) (one-mul cost) in
+        omega (arith, product, owed-le k (omega arith), clauses-handler r before i l, ltb-false cost (getD ws k 0) (any-at (heavy (rowIn r) ws) (rowCount r) k (p .light) (omega arith)))
+
+    -- A task owed work has its deadline ahead or now.
+    due-ahead : (k : ℕ) → k < r .«task_count» → 0 < getD (after .owed) k 0 → r .clock + 1 ≤ dueWith r nextNow k
+    due-ahead k l work = go (arrival k (omega arith))
+      where
+        go : Came (r .clock) (rowIn r k) (getD (r .next) k 0) (getD ws k 0) (getD nextNow k 0) → r .clock + 1 ≤ dueWith r nextNow k
+        go (nothing none same) = rw same (omega (arith, clauses-due r before (p .going) k l (omega (arith, none, owed-le k (omega arith)))))
+        go (legal some moved early light) = omega (arith, moved, clauses-fair r before k (omega arith) .period .least)
+
+    pub keeps-bounds : InBounds after
+    keeps-bounds =
+        in-bounds after
+        (record {
+          counts = before .counts;
+          figures = before .figures;
+          places = places;
+          clock = le-ltb ticksMost (r .clock + 1) (omega (arith, p .soon));
+          next = any-false (tooFar (after .clock) (rowIn after) (after .next)) (rowCount r) (λ k l. le-ltb _ _ (next-near k l));
+          tasks = any-false (tooMuch (rowIn after) (after .owed)) (r .«task_count») (λ k l. le-ltb _ _ (task-owed k l));
+          handlers = any-false (tooMuchBehind (after .clock) (rowIn after) (after .owed) (r .«task_count»)) (r .«handler_count») (λ i l. le-ltb _ _ (handler-owed i l));
+          deadlines =
+              any-false (missed (after .over) (after .clock) (dueIn after) (after .owed)) (r .«task_count») (λ k l.
+              not-missed (after .over) (after .clock) (dueIn after k) (getD (after .owed) k 0) (due-ahead k l) (λ going work same.
+              nobody-late (after .clock) (dueIn after) (after .owed) (r .«task_count») k going l work same));
+          late = names-same (after .late);
+          named = not-named (after .late);
+        })
+
+    pub keeps-shape : Shaped after
+    unfolding nextArrived
+    keeps-shape = record {
+      tasks-128 = shaped .tasks-128;
+      handlers-32 = shaped .handlers-32;
+      next-80 = length-filled _ (rowCount r) (r .next) ∙ shaped .next-80;
+      owed-80 = paid-length owedNow (r .«task_count») ran ∙ owed-length;
+    }

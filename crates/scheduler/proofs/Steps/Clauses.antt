@@ -1,0 +1,162 @@
+-- Refusal 6 clause by clause: what the code tests one after the other, and what a run in bounds is.
+--   Clauses r   no clause of refusal 6 applies
+use mathlib.Core.Bool.{Bool, true, false, not, _&&_, _||_}
+use mathlib.Core.List.{List}
+use mathlib.Core.Logic.{_⊎_, inl, inr}
+use mathlib.Core.Path.{_≡_, refl}
+use native.Mathlib.Nat.{mul-le-mul}
+use native.Mathlib.Omega.{arith}
+use borrow.Author.Tests.{ltb-false, leb-false, le-ltb, lt-ltb}
+use Prim.Native.Nat.{ℕ, _+_, _-_, _*_, _≤_, _<_}
+use lib.Dec.{ltb, eqb}
+use lib.ListN.{getD}
+use Rattle.demand.proofs.Divide.{le-or-lt}
+use Rattle.demand.specs.Limits.{tasksMost, handlersMost, ticksMost}
+use Rattle.demand.specs.Refusals.{FairRow}
+use Rattle.scheduler.specs.Bounds.{miscounts, outsideAt, tableRefused, placesUsed, clockPast, tooFar, nextTooFar, tooMuch, taskTooMuch, tooMuchBehind, handlerTooMuch, missed, deadlineMissed, names, lateWrong, lateNamed, outOfBounds, InBounds}
+use Rattle.scheduler.specs.Runs.{rowIn, rowCount, dueWith, dueIn, Fitting}
+use Rattle.scheduler.specs.Scans.{at, any}
+use Rattle.scheduler.specs.Tick.{lateRow, isTask}
+use Rattle.scheduler.specs.declared.Run.{Run}
+use Rattle.scheduler.proofs.Steps.RowPlaces.{fair-at}
+use Rattle.scheduler.proofs.Steps.Scan.{neither, any-at}
+
+-- A deadline is the period, so that of the last job is the next arrival.
+pub due-next : (r : Run) (next : List ℕ) → dueWith r next ≡ at next
+due-next r next = λ i k. same k i
+  where
+    same : (k : ℕ) → dueWith r next k ≡ at next k
+    same k = omega arith
+
+pub fitting : (n m : ℕ) → miscounts n m ≡ false → Fitting n m
+fitting n m e =
+    let handlers = neither (eqb n 0 || ltb tasksMost n) (ltb handlersMost m) e in
+    let tasks = neither (eqb n 0) (ltb tasksMost n) (handlers .0) in
+    record { tasks = ltb-false tasksMost n (tasks .1); handlers = ltb-false handlersMost m (handlers .1) }
+
+pub record Clauses (r : Run) : Type 0 where
+  pub counts : miscounts (r .«task_count») (r .«handler_count») ≡ false
+  pub figures : any (outsideAt (rowIn r)) (rowCount r) ≡ false
+  pub places : placesUsed r ≡ false
+  pub clock : clockPast r ≡ false
+  pub next : nextTooFar r ≡ false
+  pub tasks : taskTooMuch r ≡ false
+  pub handlers : handlerTooMuch r ≡ false
+  pub deadlines : deadlineMissed r ≡ false
+  pub late : lateWrong r ≡ false
+  pub named : lateNamed r ≡ false
+
+-- None of nine tests holds.
+none-of : (a b c d e f g h i : Bool) → (a || b || c || d || e || f || g || h || i) ≡ false
+    → (a ≡ false) × (b ≡ false) × (c ≡ false) × (d ≡ false) × (e ≡ false) × (f ≡ false) × (g ≡ false) × (h ≡ false) × (i ≡ false)
+none-of a b c d e f g h i none =
+    let u8 = neither (a || b || c || d || e || f || g || h) i none in
+    let u7 = neither (a || b || c || d || e || f || g) h (u8 .0) in
+    let u6 = neither (a || b || c || d || e || f) g (u7 .0) in
+    let u5 = neither (a || b || c || d || e) f (u6 .0) in
+    let u4 = neither (a || b || c || d) e (u5 .0) in
+    let u3 = neither (a || b || c) d (u4 .0) in
+    let u2 = neither (a || b) c (u3 .0) in
+    let u1 = neither a b (u2 .0) in
+    (u1 .0, u1 .1, u2 .1, u3 .1, u4 .1, u5 .1, u6 .1, u7 .1, u8 .1)
+
+module _ (r : Run) where
+  pub clauses : InBounds r → Clauses r
+  unfolding outOfBounds
+  clauses e =
+      let none = none-of (tableRefused r) (placesUsed r) (clockPast r) (nextTooFar r) (taskTooMuch r) (handlerTooMuch r) (deadlineMissed r) (lateWrong r) (lateNamed r) e in
+      let table = neither (miscounts (r .«task_count») (r .«handler_count»)) (any (outsideAt (rowIn r)) (rowCount r)) (none .0) in
+      record {
+        counts = table .0;
+        figures = table .1;
+        places = none .1;
+        clock = none .2;
+        next = none .3;
+        tasks = none .4;
+        handlers = none .5;
+        deadlines = none .6;
+        late = none .7;
+        named = none .8;
+      }
+
+  pub in-bounds : Clauses r → InBounds r
+  unfolding outOfBounds
+  in-bounds c =
+      simp (c .counts, c .figures, c .places, c .clock, c .next, c .tasks, c .handlers, c .deadlines, c .late, c .named)
+
+-- ---- the code's answers, one after the other
+
+or-last : (a b c : Bool) → (a || (b || c)) ≡ ((a || b) || c)
+or-last true b c = refl
+or-last false b c = refl
+
+module _ (r : Run) where
+  pub out-counts : miscounts (r .«task_count») (r .«handler_count») ≡ true → true ≡ outOfBounds r
+  unfolding outOfBounds
+  out-counts a = simp a
+
+  module _ (counts : miscounts (r .«task_count») (r .«handler_count») ≡ false) where
+    pub out-figures : any (outsideAt (rowIn r)) (rowCount r) ≡ true → true ≡ outOfBounds r
+    unfolding outOfBounds
+    out-figures a = simp (counts, a)
+
+    module _ (figures : any (outsideAt (rowIn r)) (rowCount r) ≡ false) where
+      pub out-places : placesUsed r ≡ true → true ≡ outOfBounds r
+      unfolding outOfBounds
+      out-places a = simp (counts, figures, a)
+
+      module _ (places : placesUsed r ≡ false) where
+        pub out-clock : ticksMost < r .clock → true ≡ outOfBounds r
+        unfolding outOfBounds
+        out-clock a = simp (counts, figures, places, lt-ltb ticksMost (r .clock) a)
+
+        pub out-rest : r .clock ≤ ticksMost → (rows deadlines late : Bool)
+            → rows ≡ (nextTooFar r || taskTooMuch r || handlerTooMuch r)
+            → deadlines ≡ any (missed (r .over) (r .clock) (at (r .next)) (r .owed)) (r .«task_count»)
+            → late ≡ ((r .over && not (names (r .late) (lateRow (r .clock) (at (r .next)) (r .owed) (r .«task_count»)))) || (not (r .over) && isTask (r .late)))
+            → (rows || deadlines || late) ≡ outOfBounds r
+        unfolding outOfBounds
+        out-rest a rows deadlines late er ed el =
+            let deadline = any (missed (r .over) (r .clock) (at (r .next)) (r .owed)) (r .«task_count») in
+            let wrong = r .over && not (names (r .late) (lateRow (r .clock) (at (r .next)) (r .owed) (r .«task_count»))) in
+            simp (counts, figures, places, le-ltb ticksMost (r .clock) a, due-next r (r .next))
+            (rw (er, ed, el) (or-last (nextTooFar r || taskTooMuch r || handlerTooMuch r || deadline) wrong (lateNamed r)))
+
+-- ---- what a run in bounds is, place by place
+
+module _ (r : Run) (c : Clauses r) where
+  pub clauses-fit : Fitting (r .«task_count») (r .«handler_count»)
+  clauses-fit = fitting (r .«task_count») (r .«handler_count») (c .counts)
+
+  pub clauses-clock : r .clock ≤ ticksMost
+  clauses-clock = ltb-false ticksMost (r .clock) (c .clock)
+
+  pub clauses-fair : (k : ℕ) → k < rowCount r → FairRow (rowIn r k)
+  clauses-fair k l = fair-at (rowIn r) (rowCount r) k (c .figures) l
+
+  pub clauses-next : (k : ℕ) → k < rowCount r → getD (r .next) k 0 ≤ r .clock + rowIn r k .period
+  clauses-next k l = ltb-false _ _ (any-at (tooFar (r .clock) (rowIn r) (r .next)) (rowCount r) k (c .next) l)
+
+  pub clauses-task : (k : ℕ) → k < r .«task_count» → getD (r .owed) k 0 ≤ rowIn r k .cost
+  clauses-task k l = ltb-false _ _ (any-at (tooMuch (rowIn r) (r .owed)) (r .«task_count») k (c .tasks) l)
+
+  pub clauses-handler : (i : ℕ) → i < r .«handler_count» → getD (r .owed) (r .«task_count» + i) 0 ≤ r .clock * rowIn r (r .«task_count» + i) .cost
+  clauses-handler i l = ltb-false _ _ (any-at (tooMuchBehind (r .clock) (rowIn r) (r .owed) (r .«task_count»)) (r .«handler_count») i (c .handlers) l)
+
+  -- So no row is owed more than fits a word.
+  pub clauses-owed : (k : ℕ) → k < rowCount r → getD (r .owed) k 0 ≤ 1000000000000000
+  clauses-owed k l = go (le-or-lt (r .«task_count») k)
+    where
+      go : (r .«task_count» ≤ k) ⊎ (k < r .«task_count») → getD (r .owed) k 0 ≤ 1000000000000000
+      go (inr m) = omega (arith, clauses-task k m, clauses-fair k l .cost .most)
+      go (inl m) =
+          let i : ℕ = k - r .«task_count» in
+          let same : r .«task_count» + i ≡ k = omega arith in
+          let most : getD (r .owed) k 0 ≤ r .clock * rowIn r k .cost = rw same at (clauses-handler i (omega arith)) in
+          omega (arith, most, mul-le-mul clauses-clock (clauses-fair k l .cost .most))
+
+  -- Where it is not over, a task owed work has its deadline ahead.
+  pub clauses-due : r .over ≡ false → (k : ℕ) → k < r .«task_count» → 0 < getD (r .owed) k 0 → r .clock < dueIn r k
+  clauses-due going k l work =
+      let none = any-at (missed (r .over) (r .clock) (dueIn r) (r .owed)) (r .«task_count») k (c .deadlines) l in
+      leb-false (dueIn r k) (r .clock) (rw (lt-ltb 0 (getD (r .owed) k 0) work, going) at none)
