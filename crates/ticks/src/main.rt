@@ -223,6 +223,11 @@ fn row_clauses() {
         with_owed(run, 2, 1),
         &[0, 0, 0],
     );
+}
+
+// The clauses about deadlines and the late row.
+fn late_clauses() {
+    let run = case_9();
     ask(b"6, a deadline at the clock", due_now(), &[0, 0, 0]);
     let over = with_late(due_now(), true, Late::Task { row: 0 });
     ask(
@@ -303,6 +308,7 @@ fn main() {
     case_14();
     table_clauses();
     row_clauses();
+    late_clauses();
     later_refusals(over);
     edges();
 }
