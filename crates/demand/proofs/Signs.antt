@@ -11,7 +11,8 @@ use Prim.Native.Nat.{ℕ, zero, suc, _+_, _-_, _^_, _<_}
 use lib.Dec.{ltb}
 use lib.IntN.{ℤ, pos, negsuc, negℤ, subℕ, _+ℤ_, _-ℤ_, +ℤ-assoc, negℤ-+ℤ}
 use Rattle.demand.specs.Demands.{handled, due, margin, Fails, Negative}
-use Rattle.demand.specs.Rows.{Row}
+use Rattle.demand.specs.Rows.{Row, Valid}
+use Rattle.demand.proofs.Demands.{handled-zero, due-zero}
 
 one-less : (l w : ℕ) → pos l -ℤ pos w ≡ subℕ l w
 one-less l zero = rw (le-ltb l 0 (omega arith)) (ap pos (omega arith))
@@ -42,6 +43,11 @@ negative-fails ts hs l n = negative-lt l (handled hs l + due ts l) (subst Negati
 pub fails-negative : (ts hs : List Row) (l : ℕ) → Fails ts hs l → Negative (margin ts hs l)
 unfolding margin
 fails-negative ts hs l h = subst Negative (sym (both-less l (handled hs l) (due ts l))) (lt-negative l (handled hs l + due ts l) h)
+
+-- At rest nothing is asked and nothing is left.
+pub margin-zero : (ts hs : List Row) → Valid ts → margin ts hs 0 ≡ pos 0
+unfolding margin
+margin-zero ts hs valid = rw (handled-zero hs, due-zero ts valid)
 
 -- The margin from three figures in hand.
 pub margin-read : (ts hs : List Row) (l f d : ℕ) → f ≡ handled hs l → d ≡ due ts l → pos l -ℤ pos f -ℤ pos d ≡ margin ts hs l

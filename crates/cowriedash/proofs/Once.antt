@@ -1,0 +1,25 @@
+-- The numbers that a call leaves are determined: two that its promise allows are equal.
+use mathlib.Core.List.{List}
+use mathlib.Core.Path.{_≡_, sym, ap, _∙_}
+use lib.IntN.{ℤ}
+use Prim.Native.Nat.{ℕ}
+use Rattle.demand.proofs.Answered.{demand-unique, margin-unique}
+use Rattle.demand.specs.Answers.{marginFigures}
+use Rattle.demand.specs.Refusals.{askedRefusal}
+use Rattle.demand.specs.Rows.{tasksOf, handlersOf}
+use Rattle.demand.specs.declared.MarginAnswer.{MarginAnswer}
+use Rattle.verdict.proofs.Once.{verdict-unique}
+use Rattle.cowriedash.specs.Numbers.{verdictNumbers, demandNumbers, VerdictTold, DemandTold, MarginTold}
+
+pub verdict-told-unique : (t h a b : List ℕ) → VerdictTold t h a → VerdictTold t h b → a ≡ b
+verdict-told-unique t h a b p q = p .numbers ∙ ap verdictNumbers (verdict-unique t h (p .answer) (q .answer) (p .says) (q .says)) ∙ sym (q .numbers)
+
+pub demand-told-unique : (k n : ℕ) (a b : List ℕ) → DemandTold k n a → DemandTold k n b → a ≡ b
+demand-told-unique k n a b p q = p .numbers ∙ ap demandNumbers (demand-unique k n (p .answer) (q .answer) (p .says) (q .says)) ∙ sym (q .numbers)
+
+pub margin-told-unique : (t h : List ℕ) (l j k : ℕ) (y z : ℤ) → MarginTold t h l j y → MarginTold t h l k z → (j ≡ k) × (y ≡ z)
+margin-told-unique t h l j k y z p q =
+    let same = margin-unique (askedRefusal t h l) (tasksOf t) (handlersOf h) l (p .answer) (q .answer) (p .says) (q .says) in (
+      p .code ∙ ap (λ (a : MarginAnswer). marginFigures a .code) same ∙ sym (q .code),
+      p .ticks ∙ ap (λ (a : MarginAnswer). marginFigures a .ticks) same ∙ sym (q .ticks),
+    )
