@@ -67,7 +67,7 @@ static void plain(const uint32_t *t, size_t nt, const uint32_t *h, size_t nh, ui
     W = due(t, nt, H) + due(h, nh, H);
     for (size_t i = 0; i < nh; i += 2) E += h[i];
     memset(out, 0, 6 * sizeof *out);
-    out[5] = 1000000 * (W / H) + (2 * (1000000 * (W % H)) + H) / (2 * H);
+    out[5] = 1000000 * (W / H) + (1000000 * (W % H) + (H - 1)) / H;
     end = H < W ? H : E == 0 ? 0 : W == H ? H : (E * H - 1) / (H - W);
     if (H < end) end = H;
     while (l < end) {

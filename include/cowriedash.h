@@ -17,7 +17,7 @@ extern "C" {
 enum { COWRIEDASH_FITS = 0, COWRIEDASH_MISSES = 1, COWRIEDASH_REFUSED = 2 };
 
 /* out: fits, misses or refused; the refusal's number (1 to 4) or 0; the shortest interval that fails; handler demand
-   there; task demand there; the load in millionths. What does not apply is 0. */
+   there; task demand there; the load in millionths, rounded up. What does not apply is 0. */
 void cowriedash_verdict(const uint32_t *tasks, size_t tasks_count, const uint32_t *handlers, size_t handlers_count,
                         uint64_t out[6]);
 

@@ -92,9 +92,8 @@ pub fn verdict(tasks: &[u32], handlers: &[u32], patience: u128) -> Option<[u64; 
     let all: Vec<Row> = t.iter().chain(&h).copied().collect();
     let Some(hyper) = period(&all) else { return refused(4) };
     let whole: u128 = all.iter().map(|r| r.cost * (hyper / r.period)).sum();
-    let doubled = 2_000_000 * whole;
-    let mut load = doubled / (2 * hyper);
-    if doubled % (2 * hyper) >= hyper {
+    let mut load = 1_000_000 * whole / hyper;
+    if load * hyper < 1_000_000 * whole {
         load += 1;
     }
     // Blind: every length, twice as far as H, and only a table that is not overfull may end without a failure.

@@ -42,7 +42,7 @@ abbrev handlers-6 : List ℕ
 handlers-6 = 2 ∷ 10 ∷ []
 
 abbrev answer-6 : Answer
-answer-6 = verdict.Fits 533333
+answer-6 = verdict.Fits 533334
 
 says-6 : VerdictSays tasks-6 handlers-6 answer-6
 unfolding VerdictSays figures cases

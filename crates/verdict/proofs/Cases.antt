@@ -19,7 +19,7 @@ use Rattle.demand.specs.Rows.{Row, rowsOf, tasksOf, handlersOf, total, some}
 use Rattle.demand.proofs.Divide.{le-or-lt}
 use Rattle.verdict.specs.Cases.{Case, cases, CaseHolds, EveryCase}
 use Rattle.verdict.specs.Facts.{PassesTo, endBy, searchEnd}
-use Rattle.verdict.specs.Loads.{work, whole, costs, nearest, load}
+use Rattle.verdict.specs.Loads.{work, whole, costs, millionths, load}
 use Rattle.verdict.specs.Multiples.{euclid, gcd, lcm, lcmFrom, period}
 use Rattle.verdict.specs.Promise.{Word, Figures, figures, verdictRefusal, SaysBy, Says, VerdictSays}
 use Rattle.verdict.specs.Promise.Word.{fits, misses, refused}
@@ -153,7 +153,7 @@ every-case (c ∷ cs) e =
 
 -- The one computation: here the definitions are opened, crate demand's too, since only numbers are left to find.
 all-hold : allHold cases ≡ true
-unfolding allHold holds same pairs short cases searchEnd endBy verdictRefusal tableThen load whole work costs nearest period lcmFrom lcm gcd euclid handled called taken grow due total some rowsOf
+unfolding allHold holds same pairs short cases searchEnd endBy verdictRefusal tableThen load whole work costs millionths period lcmFrom lcm gcd euclid handled called taken grow due total some rowsOf
 all-hold = refl
 
 pub cases-hold : EveryCase cases

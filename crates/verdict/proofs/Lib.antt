@@ -8,7 +8,9 @@ pub mod Ends
 pub mod Lengths
 pub mod Once
 pub mod UnderLess
+pub mod Full
 pub mod Cases
+pub mod DyeHouse
 pub mod Heads
 pub mod Searching
 pub mod Sayings

@@ -1,14 +1,16 @@
 -- Laws of W, E and the load (specs/Loads): row by row, how great they get, and the load without a long product.
 use mathlib.Core.List.{List, [], _∷_}
 use mathlib.Core.Path.{_≡_, refl, ap, _∙_}
-use native.Mathlib.Nat.{mul-le-mul, mul-le-mul-right, mul-add-div, div-le-self, div-add-mod'}
+use native.Mathlib.Nat.{mul-le-mul, mul-le-mul-right, mul-add-div, div-le-self, div-add-mod', div-lt-iff-lt-mul}
 use native.Mathlib.Omega.{arith}
 use lib.ListN.{length}
-use Prim.Native.Nat.{ℕ, _+_, _*_, _/_, _%_, _≤_, _<_}
+use Prim.Native.Nat.{ℕ, _+_, _-_, _*_, _/_, _%_, _≤_, _<_}
+use Rattle.demand.specs.Demands.{ceil}
 use Rattle.demand.specs.Refusals.{FairRow}
 use Rattle.demand.specs.Rows.{Row, Each}
+use Rattle.demand.proofs.Divide.{le-ceil-mul}
 use Rattle.demand.proofs.Sums.{each-map, total-most, total-nil, total-cons}
-use Rattle.verdict.specs.Loads.{workBy, work, costs, nearest}
+use Rattle.verdict.specs.Loads.{workBy, work, costs, millionths}
 
 -- ---- row by row
 
@@ -51,9 +53,18 @@ costs-zero (h ∷ hs) fair e = absurd (omega (arith, costs-cons h hs, fair .0 .c
 
 -- ---- the load
 
--- 1,000,000 times w / h to the nearest: whole times first, so that no number is longer than the remainder asks.
-pub nearest-split : (w h : ℕ) → 0 < h → nearest (1000000 * w) h ≡ 1000000 * (w / h) + (2 * (1000000 * (w % h)) + h) / (2 * h)
-unfolding nearest
-nearest-split w h pos =
-    let parts : 2 * (1000000 * w) + h ≡ 2 * h * (1000000 * (w / h)) + (2 * (1000000 * (w % h)) + h) = omega (arith, div-add-mod' w h) in
-    ap (λ (x : ℕ). x / (2 * h)) parts ∙ mul-add-div {m = 2 * h} (omega arith) (1000000 * (w / h)) (2 * (1000000 * (w % h)) + h)
+-- Whole times first, so that no number is longer than the remainder asks.
+pub millionths-split : (w h : ℕ) → 0 < h → millionths w h ≡ 1000000 * (w / h) + (1000000 * (w % h) + (h - 1)) / h
+unfolding millionths
+millionths-split w h pos =
+    let parts : 1000000 * w + (h - 1) ≡ h * (1000000 * (w / h)) + (1000000 * (w % h) + (h - 1)) = omega (arith, div-add-mod' w h) in
+    ap (λ (x : ℕ). x / h) parts ∙ mul-add-div {m = h} pos (1000000 * (w / h)) (1000000 * (w % h) + (h - 1))
+
+-- One million or less is said exactly where w is at most h.
+pub millionths-full : (w h : ℕ) → 0 < h → (millionths w h ≤ 1000000 → w ≤ h) × (w ≤ h → millionths w h ≤ 1000000)
+unfolding millionths
+millionths-full w h pos =
+    (λ few. omega (arith, le-ceil-mul h (1000000 * w) pos, mul-le-mul-right h few), λ light. omega (arith, rounded light))
+  where
+    rounded : w ≤ h → ceil (1000000 * w) h < 1000001
+    rounded light = div-lt-iff-lt-mul pos .1 (omega arith)

@@ -31,12 +31,14 @@ module _ (t h : List ℕ) (readable : verdictRefusal t h ≡ 0) where
   pub readable-period : period (tasksOf t) (handlersOf h) ≤ ticksMost
   readable-period = ltb-false ticksMost (period (tasksOf t) (handlersOf h)) (not-refused 3 (ltb ticksMost (period (tasksOf t) (handlersOf h))) 0 (tested .1) .0)
 
+  pub readable-positive : 0 < period (tasksOf t) (handlersOf h)
+  readable-positive = period-positive (tasksOf t) (handlersOf h) (fair-positive (tasksOf t) (readable-in-range .tasks)) (fair-positive (handlersOf h) (readable-in-range .handlers))
+
   pub period-small : (m : ℕ) → m ≡ period (tasksOf t) (handlersOf h) → (0 < m) × Small (tasksOf t) m × Small (handlersOf h) m
   period-small m e =
       let fair = readable-in-range in
-      let pos = period-positive (tasksOf t) (handlersOf h) (fair-positive (tasksOf t) (fair .tasks)) (fair-positive (handlersOf h) (fair .handlers)) in
       let short : m ≤ ticksMost = omega (arith, e, readable-period) in (
-        omega (arith, e, pos),
+        omega (arith, e, readable-positive),
         record { rows = fair .tasks; count = fair .tasks-most; ticks = short },
         record { rows = fair .handlers; count = omega (arith, fair .handlers-most); ticks = short },
       )

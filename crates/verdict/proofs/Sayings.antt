@@ -9,7 +9,7 @@ use Rattle.demand.specs.Rows.{Row, tasksOf, handlersOf}
 use Rattle.demand.proofs.Sizes.{tasks-valid, handlers-positive}
 use Rattle.demand.proofs.Sums.{valid-positive}
 use Rattle.verdict.specs.Facts.{PassesTo, FoundAt, FoundSays, endBy, searchEnd}
-use Rattle.verdict.specs.Loads.{work, whole, costs, nearest, load}
+use Rattle.verdict.specs.Loads.{work, whole, costs, millionths, load}
 use Rattle.verdict.specs.Multiples.{period, capped}
 use Rattle.verdict.specs.Promise.{figures, verdictRefusal, SaysBy, Says, VerdictSays}
 use Rattle.verdict.specs.declared.Answer.the-variants as answer
@@ -28,7 +28,7 @@ module _ (ts hs : List Row) (h w v : ℕ) (eh : h ≡ period ts hs) (ew : w ≡ 
   unfolding whole
   whole-read = rw (ew, ev, eh)
 
-  pub load-read : (l : ℕ) → l ≡ nearest (1000000 * (w + v)) h → l ≡ load ts hs
+  pub load-read : (l : ℕ) → l ≡ millionths (w + v) h → l ≡ load ts hs
   unfolding load
   load-read l e = e ∙ rw (whole-read, eh)
 

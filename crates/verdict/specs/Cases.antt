@@ -1,6 +1,7 @@
 -- Cases 1 to 12 (01, "Sums done by hand"): one list, one statement.
 --   Case              == a table and the figures of its sheet
 --   cases             == the twelve
+--   dyeHouse          == the table of M-100, whose load is the first above one million
 --   CaseHolds c       the verdict's promise holds of these figures, and whatever it allows has them
 --   EveryCase cs      each case of the list holds
 use mathlib.Core.List.{List, [], _∷_}
@@ -34,14 +35,17 @@ cases =
     ∷ case (1 ∷ 4 ∷ []) (2 ∷ 3 ∷ []) (yes 916667)
     ∷ case (2 ∷ 4 ∷ []) (2 ∷ 3 ∷ []) (no 4 3 2 1166667)
     ∷ case (1 ∷ 2 ∷ []) (2 ∷ 10 ∷ []) (no 2 2 1 700000)
-    ∷ case (1 ∷ 3 ∷ []) (2 ∷ 10 ∷ []) (yes 533333)
+    ∷ case (1 ∷ 3 ∷ []) (2 ∷ 10 ∷ []) (yes 533334)
     ∷ case (2 ∷ 4 ∷ []) (1 ∷ 4 ∷ 1 ∷ 4 ∷ []) (yes 1000000)
     ∷ case (1 ∷ 1 ∷ []) (1 ∷ 1000000 ∷ []) (no 1 1 1 1000001)
     ∷ case (2 ∷ 5 ∷ 4 ∷ 8 ∷ []) (1 ∷ 4 ∷ []) (no 10 3 8 1150000)
     ∷ case (3 ∷ 2 ∷ []) [] (no 2 0 3 1500000)
-    ∷ case (1 ∷ 1000 ∷ 1 ∷ 999999 ∷ []) [] (yes 1001)
+    ∷ case (1 ∷ 1000 ∷ 1 ∷ 999999 ∷ []) [] (yes 1002)
     ∷ case (1 ∷ 1001 ∷ 1 ∷ 1000000 ∷ []) [] (refusal 4)
     ∷ []
+
+unfoldable pub dyeHouse : Case
+dyeHouse = case (999 ∷ 1000 ∷ 1000 ∷ 999999 ∷ []) [] (no 999999000 0 999999001 1000001)
 
 pub record CaseHolds (c : Case) : Type 0 where
   pub holds : Says (c .tasks) (c .handlers) (c .sheet)

@@ -4,4 +4,5 @@ pub mod Promise
 pub mod Facts
 pub mod Lengths
 pub mod Lightening
+pub mod Full
 pub mod Cases

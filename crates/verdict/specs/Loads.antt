@@ -2,9 +2,10 @@
 --   work m rs     == the sum of cost times (m / period) over rs
 --   whole ts hs   == W, the work of all rows over H ticks
 --   costs hs      == E, the sum of handler costs
---   load ts hs    == 1,000,000 times W / H, rounded to the nearest whole number, halves up
+--   load ts hs    == 1,000,000 times W / H, rounded up (M-100)
 use mathlib.Core.List.{List}
 use Prim.Native.Nat.{ℕ, _+_, _*_, _/_}
+use Rattle.demand.specs.Demands.{ceil}
 use Rattle.demand.specs.Rows.{Row, total}
 use Rattle.verdict.specs.Multiples.{period}
 
@@ -21,9 +22,9 @@ whole ts hs = work (period ts hs) ts + work (period ts hs) hs
 unfoldable pub costs : List Row → ℕ
 costs hs = total (λ r. r .cost) hs
 
--- x / y rounded to the nearest whole number, halves up: x / y + 1 / 2 rounded down
-unfoldable pub nearest : ℕ → ℕ → ℕ
-nearest x y = (2 * x + y) / (2 * y)
+-- w / h in millionths, rounded up: a load never looks lighter than it is
+unfoldable pub millionths : ℕ → ℕ → ℕ
+millionths w h = ceil (1000000 * w) h
 
 unfoldable pub load : List Row → List Row → ℕ
-load ts hs = nearest (1000000 * whole ts hs) (period ts hs)
+load ts hs = millionths (whole ts hs) (period ts hs)

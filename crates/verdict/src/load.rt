@@ -4,7 +4,7 @@ ghost use Prim.Native.Nat.{_*_, _<_, _≤_};
 ghost use Rattle.demand.specs.Limits.{ticksMost};
 ghost use Rattle.demand.specs.Rows.{rowsOf};
 ghost use Rattle.demand.specs.Walk.{Small};
-ghost use Rattle.verdict.specs.Loads.{work, costs, nearest};
+ghost use Rattle.verdict.specs.Loads.{work, costs, millionths};
 use demand::readable;
 
 // The work that the rows of s bring in h ticks, for whole periods.
@@ -33,12 +33,12 @@ pub fn costs(s: &[u32]) -> u64
     row.cost + rest
 }
 
-// 1,000,000 times w / h to the nearest whole number, halves up: the whole part and the rest apart, so that nothing overflows.
+// 1,000,000 times w / h, rounded up: the whole part and the rest apart, so that nothing overflows.
 pub fn of_work(w: u64, h: u64) -> u64
     requires { ⌜ (w ≤ 128000000 * h) × (0 < h) × (h ≤ ticksMost) ⌝ }
-    ensures { λ r. ⌜ r ≡ nearest (1000000 * w) h ⌝ }
+    ensures { λ r. ⌜ r ≡ millionths w h ⌝ }
 {
     let q = w / h;
     let r = w % h;
-    1000000 * q + (2 * (1000000 * r) + h) / (2 * h)
+    1000000 * q + (1000000 * r + (h - 1)) / h
 }

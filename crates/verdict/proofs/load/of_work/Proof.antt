@@ -1,8 +1,8 @@
 use mathlib.Core.Path.{sym}
 use native.Mathlib.Nat.{div-le-of-le-mul, div-le-self, mod-lt, mul-comm}
 use native.Mathlib.Omega.{arith}
-use Prim.Native.Nat.{_+_, _*_, _/_, _%_, _≤_}
-use Rattle.verdict.proofs.Loads.{nearest-split}
+use Prim.Native.Nat.{_+_, _-_, _*_, _/_, _%_, _≤_}
+use Rattle.verdict.proofs.Loads.{millionths-split}
 use borrow.Author.Needs.{needs}
 use Rattle.verdict.proofs.load.of_work.Statement.{statement}
 use Rattle.verdict.proofs.load.of_work.Tie as tie
@@ -25,23 +25,20 @@ mul-result c = omega (arith, quotient c)
 mul-result-2 : tie.Need-mul-result-2
 mul-result-2 c = omega (arith, mod-lt (c .args .w) (c .pre .1))
 
-mul-result-3 : tie.Need-mul-result-3
-mul-result-3 c = omega (arith, mod-lt (c .args .w) (c .pre .1))
+sub-result : tie.Need-sub-result
+sub-result c = search needs
 
 add-result : tie.Need-add-result
 add-result c = omega (arith, mod-lt (c .args .w) (c .pre .1))
-
-mul-result-4 : tie.Need-mul-result-4
-mul-result-4 c = search needs
 
 div-result : tie.Need-div-result
 div-result c = search needs
 
 add-result-2 : tie.Need-add-result-2
-add-result-2 c = omega (arith, quotient c, mod-lt (c .args .w) (c .pre .1), div-le-self (2 * (1000000 * (c .args .w % c .args .h)) + c .args .h) (2 * c .args .h))
+add-result-2 c = omega (arith, quotient c, mod-lt (c .args .w) (c .pre .1), div-le-self (1000000 * (c .args .w % c .args .h) + (c .args .h - 1)) (c .args .h))
 
 returns : tie.Need-returns
-returns c = sym (nearest-split _ _ (c .pre .1))
+returns c = sym (millionths-split _ _ (c .pre .1))
 
 pub of-work-spec : {M : Type 1} → statement M
 of-work-spec =
@@ -51,9 +48,8 @@ of-work-spec =
     rem-r
     mul-result
     mul-result-2
-    mul-result-3
+    sub-result
     add-result
-    mul-result-4
     div-result
     add-result-2
     returns)
