@@ -24,15 +24,26 @@ static uint64_t called(const uint32_t *h, size_t n, uint64_t l) {
     return sum;
 }
 
+/* jobs of a task that have their deadline within l ticks */
+static uint64_t jobs(const uint32_t *t, uint64_t l) { return l < t[2] ? 0 : (l - t[2]) / t[1] + 1; }
+
 static uint64_t due(const uint32_t *t, size_t n, uint64_t l) {
     uint64_t sum = 0;
-    for (size_t i = 0; i + 1 < n; i += 2) sum += t[i] * (l / t[i + 1]);
+    for (size_t i = 0; i + 2 < n; i += 3) sum += t[i] * jobs(t + i, l);
     return sum;
 }
 
-static uint64_t next_multiple(const uint32_t *s, size_t n, uint64_t at, uint64_t top) {
+static uint64_t next_deadline(const uint32_t *t, size_t n, uint64_t at, uint64_t top) {
+    for (size_t i = 0; i + 2 < n; i += 3) {
+        uint64_t own = t[i + 2] + jobs(t + i, at) * t[i + 1];
+        if (own < top) top = own;
+    }
+    return top;
+}
+
+static uint64_t next_arrival(const uint32_t *h, size_t n, uint64_t at, uint64_t top) {
     for (size_t i = 0; i + 1 < n; i += 2) {
-        uint64_t own = (at / s[i + 1] + 1) * s[i + 1];
+        uint64_t own = (at / h[i + 1] + 1) * h[i + 1];
         if (own < top) top = own;
     }
     return top;
@@ -46,32 +57,39 @@ static uint64_t handled(const uint32_t *h, size_t n, uint64_t at, uint64_t f, ui
             f += busy;
             at += busy;
         } else {
-            at = next_multiple(h, n, at, m);
+            at = next_arrival(h, n, at, m);
         }
     }
     return f;
 }
 
-static int outside(const uint32_t *s, size_t n) {
-    for (size_t i = 0; i < n; i++)
-        if (s[i] == 0 || 1000000 < s[i]) return 1;
+static int outside(const uint32_t *s, size_t n, size_t width) {
+    for (size_t i = 0; i < n; i += width)
+        if (s[i] == 0 || 1000000 < s[i] || s[i + 1] == 0 || 1000000 < s[i + 1]) return 1;
+    return 0;
+}
+
+static int deadline_outside(const uint32_t *t, size_t n) {
+    for (size_t i = 0; i < n; i += 3)
+        if (t[i + 2] == 0 || t[i + 1] < t[i + 2]) return 1;
     return 0;
 }
 
 /* The six numbers of the verdict. */
 static void plain(const uint32_t *t, size_t nt, const uint32_t *h, size_t nh, uint64_t out[6]) {
-    uint64_t H = 1, W, E = 0, end, l = 0, f = 0;
-    if (nt % 2 || nh % 2 || nt == 0 || 128 < nt || 32 < nh || outside(t, nt) || outside(h, nh)) return;
-    for (size_t i = 1; i < nt; i += 2) H = H / gcd(H, t[i]) * t[i];
-    for (size_t i = 1; i < nh; i += 2) H = H / gcd(H, h[i]) * h[i];
-    W = due(t, nt, H) + due(h, nh, H);
-    for (size_t i = 0; i < nh; i += 2) E += h[i];
+    uint64_t H = 1, W = 0, B = 0, end, l = 0, f = 0;
+    if (nt % 3 || nh % 2 || nt == 0 || 192 < nt || 32 < nh) return;
+    if (outside(t, nt, 3) || outside(h, nh, 2) || deadline_outside(t, nt)) return;
+    for (size_t i = 0; i < nt; i += 3) H = H / gcd(H, t[i + 1]) * t[i + 1];
+    for (size_t i = 0; i < nh; i += 2) H = H / gcd(H, h[i + 1]) * h[i + 1];
+    for (size_t i = 0; i < nt; i += 3) W += t[i] * (H / t[i + 1]), B += t[i] * (H / t[i + 1]) * (t[i + 1] - t[i + 2]);
+    for (size_t i = 0; i < nh; i += 2) W += h[i] * (H / h[i + 1]), B += h[i] * H;
     memset(out, 0, 6 * sizeof *out);
     out[5] = 1000000 * (W / H) + (1000000 * (W % H) + (H - 1)) / H;
-    end = H < W ? H : E == 0 ? 0 : W == H ? H : (E * H - 1) / (H - W);
+    end = H < W ? H : B == 0 ? 0 : W == H ? H : (B - 1) / (H - W);
     if (H < end) end = H;
     while (l < end) {
-        uint64_t n = next_multiple(t, nt, l, end + 1), d;
+        uint64_t n = next_deadline(t, nt, l, end + 1), d;
         if (end < n) return;
         f = handled(h, nh, l, f, n);
         d = due(t, nt, n);
@@ -106,33 +124,35 @@ static void compare(const char *name, const uint32_t *t, size_t nt, const uint32
 }
 
 int main(void) {
-    uint32_t many[128], few[32];
+    uint32_t many[192], few[32];
     printf("%-42s %13s %13s\n", "table", "cowriedash", "plain C -O2");
     {
-        uint32_t t[] = {2, 5, 4, 8}, h[] = {1, 4};
-        compare("case 9", t, 4, h, 2, 1000);
+        uint32_t t[] = {2, 5, 5, 4, 8, 8}, h[] = {1, 4};
+        compare("case 9", t, 6, h, 2, 1000);
     }
     {
-        uint32_t t[] = {300, 1000, 300, 999}, h[] = {390, 1001};
-        compare("H near its limit, load 990,000", t, 4, h, 2, 5);
+        uint32_t t[] = {300, 1000, 1000, 300, 999, 999}, h[] = {390, 1001};
+        compare("H near its limit, load 990,000", t, 6, h, 2, 5);
+        t[2] = 800, t[5] = 999;
+        compare("the same, one deadline short", t, 6, h, 2, 5);
     }
-    for (size_t i = 0; i < 128; i += 2) many[i] = 19, many[i + 1] = 1000 + 125 * (i % 8);
+    for (size_t i = 0; i < 64; i++) many[3 * i] = 19, many[3 * i + 1] = many[3 * i + 2] = 1000 + 250 * (i % 4);
     for (size_t i = 0; i < 32; i += 2) few[i] = 3, few[i + 1] = 500 + 125 * (i % 4);
-    compare("64 tasks and 16 handlers, overfull", many, 128, few, 32, 1000);
+    compare("64 tasks and 16 handlers, overfull", many, 192, few, 32, 1000);
     /* 32 tasks 1/64, 31 tasks 1/625 and one that fills the rest; 8 handlers 1/15,625 and 8 handlers 1/1,000,000 */
-    for (size_t i = 0; i < 128; i += 2) many[i] = 1, many[i + 1] = i % 4 ? 625 : 64;
-    many[126] = 449880, many[127] = 1000000;
+    for (size_t i = 0; i < 64; i++) many[3 * i] = 1, many[3 * i + 1] = many[3 * i + 2] = i % 2 ? 625 : 64;
+    many[189] = 449880, many[190] = many[191] = 1000000;
     for (size_t i = 0; i < 32; i += 2) few[i] = 1, few[i + 1] = i % 4 ? 1000000 : 15625;
-    compare("64 tasks and 16 handlers, W = H", many, 128, few, 32, 20);
+    compare("64 tasks and 16 handlers, W = H", many, 192, few, 32, 20);
     {
         /* periods 2 and twice the pairwise products of the primes 683, 691 and 701, W = H: searched to H = 661,678,106 */
-        uint32_t t[] = {1, 2, 373279, 943906, 100101, 957566}, h[] = {1, 968782};
-        compare("period 2 and products of primes, W = H", t, 6, h, 2, 1);
+        uint32_t t[] = {1, 2, 2, 373279, 943906, 943906, 100101, 957566, 957566}, h[] = {1, 968782};
+        compare("period 2 and products of primes, W = H", t, 9, h, 2, 1);
     }
     {
         /* W = H with a handler at every second tick */
-        uint32_t t[] = {499999, 1000000}, h[] = {1, 2, 1, 1000000};
-        compare("handler at every second tick, W = H", t, 2, h, 4, 3);
+        uint32_t t[] = {499999, 1000000, 1000000}, h[] = {1, 2, 1, 1000000};
+        compare("handler at every second tick, W = H", t, 3, h, 4, 3);
     }
     return 0;
 }

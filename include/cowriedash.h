@@ -1,6 +1,7 @@
 /* Cowriedash for C: the verdict on a table and the two demands, without the scheduler.
 
-   A table is two lists of 32-bit numbers, tasks and handlers: cost, period, cost, period, ..
+   A table is two lists of 32-bit numbers: tasks in threes (cost, period, deadline, cost, ..), each deadline from 1 to
+   its period, and handlers in twos (cost, period, cost, ..).
    A count is the count of numbers, not of rows. Every input gets an answer; nothing lent is changed but `out`.
    Link with libcowriedash.a (README.md says how it is made). */
 #ifndef COWRIEDASH_H
@@ -16,18 +17,18 @@ extern "C" {
 /* What out[0] of cowriedash_verdict says. */
 enum { COWRIEDASH_FITS = 0, COWRIEDASH_MISSES = 1, COWRIEDASH_REFUSED = 2 };
 
-/* out: fits, misses or refused; the refusal's number (1 to 4) or 0; the shortest interval that fails; handler demand
+/* out: fits, misses or refused; the refusal's number (1, 2, 3, 13 or 4) or 0; the shortest interval that fails; handler demand
    there; task demand there; the load in millionths, rounded up. What does not apply is 0. */
 void cowriedash_verdict(const uint32_t *tasks, size_t tasks_count, const uint32_t *handlers, size_t handlers_count,
                         uint64_t out[6]);
 
-/* out: the refusal's number (1, 2, 3 or 5) or 0; the demand of an interval of l ticks, 0 if refused. */
+/* out: the refusal's number (1, 2, 3, 13 or 5) or 0; the demand of an interval of l ticks, 0 if refused. */
 void cowriedash_handler_demand(const uint32_t *tasks, size_t tasks_count, const uint32_t *handlers,
                                size_t handlers_count, uint64_t l, uint64_t out[2]);
 void cowriedash_task_demand(const uint32_t *tasks, size_t tasks_count, const uint32_t *handlers, size_t handlers_count,
                             uint64_t l, uint64_t out[2]);
 
-/* Returns the refusal's number (1, 2, 3 or 5) or 0; out: l less both demands, below 0 exactly where the interval
+/* Returns the refusal's number (1, 2, 3, 13 or 5) or 0; out: l less both demands, below 0 exactly where the interval
    fails, 0 if refused. */
 uint32_t cowriedash_margin(const uint32_t *tasks, size_t tasks_count, const uint32_t *handlers, size_t handlers_count,
                            uint64_t l, int64_t *out);

@@ -1,17 +1,17 @@
-/* Do tasks 2/5 and 4/8 fit beside a handler 1/4? */
+/* Do tasks 2/5 and 4/8, each due by its next arrival, fit beside a handler 1/4? */
 #include <inttypes.h>
 #include <stdio.h>
 
 #include "cowriedash.h"
 
 int main(void) {
-    const uint32_t tasks[] = {2, 5, 4, 8}, handlers[] = {1, 4};
+    const uint32_t tasks[] = {2, 5, 5, 4, 8, 8}, handlers[] = {1, 4};
     uint64_t sheet[6];
     int64_t left;
 
-    cowriedash_verdict(tasks, 4, handlers, 2, sheet);
+    cowriedash_verdict(tasks, 6, handlers, 2, sheet);
     if (sheet[0] == COWRIEDASH_MISSES)
         printf("misses at %" PRIu64 ": handlers %" PRIu64 ", tasks %" PRIu64 "\n", sheet[2], sheet[3], sheet[4]);
-    if (cowriedash_margin(tasks, 4, handlers, 2, 8, &left) == 0) printf("margin at 8: %" PRId64 "\n", left);
+    if (cowriedash_margin(tasks, 6, handlers, 2, 8, &left) == 0) printf("margin at 8: %" PRId64 "\n", left);
     return 0;
 }

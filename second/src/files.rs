@@ -6,62 +6,87 @@ use crate::tables::{self, Table};
 use std::io::Write;
 use std::process::{Command, Stdio};
 
+/// What a file says: its table, and whether a handler has a deadline.
+pub struct Said {
+    pub table: Table,
+    pub misplaced: bool,
+}
+
+/// A number of 1 to 7 digits with no leading zero.
+fn number(field: &str) -> Option<u32> {
+    let digits = !field.is_empty() && field.len() <= 7 && field.bytes().all(|b| b.is_ascii_digit());
+    if !digits || (field.len() > 1 && field.starts_with('0')) {
+        return None;
+    }
+    field.parse().ok()
+}
+
 /// The rows of a file, or nothing where it breaks the layout.
-pub fn read(bytes: &[u8]) -> Option<Table> {
+pub fn read(bytes: &[u8]) -> Option<Said> {
     if bytes.len() > 4096 {
         return None;
     }
     let text = std::str::from_utf8(bytes).ok()?;
     let text = text.strip_suffix("\r\n").unwrap_or(text);
     let mut lines = text.split("\r\n");
-    if lines.next()? != "kind,cost,period" {
-        return None;
-    }
-    let mut table = Table { tasks: vec![], handlers: vec![] };
+    let columns = match lines.next()? {
+        "kind,cost,period" => 3,
+        "kind,cost,period,deadline" => 4,
+        _ => return None,
+    };
+    let mut said = Said { table: Table { tasks: vec![], handlers: vec![] }, misplaced: false };
     for line in lines {
         let fields: Vec<&str> = line.split(',').collect();
-        let [kind, cost, period] = fields[..] else { return None };
-        let list = match kind {
-            "task" => &mut table.tasks,
-            "handler" => &mut table.handlers,
-            _ => return None,
-        };
-        for field in [cost, period] {
-            let digits = !field.is_empty() && field.len() <= 7 && field.bytes().all(|b| b.is_ascii_digit());
-            if !digits || (field.len() > 1 && field.starts_with('0')) {
-                return None;
+        if fields.len() != columns {
+            return None;
+        }
+        let (cost, period) = (number(fields[1])?, number(fields[2])?);
+        match (fields[0], fields.get(3)) {
+            ("task", None) => said.table.tasks.extend([cost, period, period]),
+            ("task", Some(deadline)) => said.table.tasks.extend([cost, period, number(deadline)?]),
+            ("handler", last) => {
+                said.table.handlers.extend([cost, period]);
+                if let Some(field) = last.filter(|f| !f.is_empty()) {
+                    number(field)?;
+                    said.misplaced = true;
+                }
             }
-            list.push(field.parse().ok()?);
+            _ => return None,
         }
     }
-    Some(table)
+    Some(said)
 }
 
 /// The two lines that the program must print, where a blind search can tell.
 pub fn sheet(bytes: &[u8], patience: u128) -> Option<String> {
     let g = match read(bytes) {
         None => [2, 12, 0, 0, 0, 0],
-        Some(table) => model::verdict(&table.tasks, &table.handlers, patience)?,
+        Some(said) if said.misplaced => {
+            let own = model::table_refusal(&said.table.tasks, &said.table.handlers);
+            [2, if own == 0 { 13 } else { own as u64 }, 0, 0, 0, 0]
+        }
+        Some(said) => model::verdict(&said.table.tasks, &said.table.handlers, patience)?,
     };
     let word = ["fits", "misses", "refused"][g[0] as usize];
     Some(format!("verdict,code,interval,handler,task,load\r\n{word},{},{},{},{},{}\r\n", g[1], g[2], g[3], g[4], g[5]))
 }
 
-/// A table as text, and then perhaps damaged.
+/// A table as text under either header, and then perhaps damaged.
 pub fn file(random: &mut Random) -> Vec<u8> {
     let table = if random.chance(4) { tables::hostile(random) } else { tables::small(random) };
+    let old = random.chance(3);
     let mut rows: Vec<String> = Vec::new();
-    let mut push = |kind: &str, list: &[u32]| {
-        for r in list.chunks_exact(2) {
-            rows.push(format!("{kind},{},{}", r[0], r[1]));
-        }
-    };
-    push("task", &table.tasks);
-    push("handler", &table.handlers);
+    for r in table.tasks.chunks_exact(3) {
+        rows.push(if old { format!("task,{},{}", r[0], r[1]) } else { format!("task,{},{},{}", r[0], r[1], r[2]) });
+    }
+    for r in table.handlers.chunks_exact(2) {
+        let last = if old { "" } else if random.chance(30) { ",1" } else { "," };
+        rows.push(format!("handler,{},{}{last}", r[0], r[1]));
+    }
     for i in (1..rows.len()).rev() {
         rows.swap(i, random.below(i as u64 + 1) as usize);
     }
-    let mut text = String::from("kind,cost,period");
+    let mut text = String::from(if old { "kind,cost,period" } else { "kind,cost,period,deadline" });
     for row in rows {
         text += "\r\n";
         text += &row;

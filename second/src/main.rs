@@ -21,6 +21,8 @@ const PATIENCE: u128 = 20_000;
 struct Counts {
     tables: u64,
     verdicts: u64,
+    /// Of these, readable tables with a deadline before the next arrival.
+    short: u64,
     fits: u64,
     misses: u64,
     refused: u64,
@@ -40,7 +42,7 @@ fn ask(table: &Table, l: u64, counts: &mut Counts) {
     let code = model::asked_refusal(t, h, l);
     let (f, d) = if code == 0 && l as u128 <= PATIENCE {
         let l = l as u128;
-        (model::handled(&model::rows(h), l)[l as usize], model::due(&model::rows(t), l))
+        (model::handled(&model::handlers_of(h), l)[l as usize], model::due(&model::tasks_of(t), l))
     } else if code == 0 {
         return;
     } else {
@@ -73,6 +75,8 @@ fn judge(table: &Table, counts: &mut Counts) {
         differ("verdict", table, format!("{got:?}"), format!("{want:?}"));
     }
     counts.verdicts += 1;
+    let short = |t: &model::Task| t.deadline < t.period;
+    counts.short += (want[0] < 2 && model::tasks_of(&table.tasks).iter().any(short)) as u64;
     match want[0] {
         0 => counts.fits += 1,
         1 => counts.misses += 1,
@@ -135,8 +139,8 @@ fn main() {
         }
     }
     println!(
-        "seed {seed}: {} tables, {} verdicts compared ({} fits, {} misses, {} refused), {} questions compared, 0 differences",
-        counts.tables, counts.verdicts, counts.fits, counts.misses, counts.refused, counts.questions
+        "seed {seed}: {} tables, {} verdicts compared ({} fits, {} misses, {} refused; {} with short deadlines), {} questions compared, 0 differences",
+        counts.tables, counts.verdicts, counts.fits, counts.misses, counts.refused, counts.short, counts.questions
     );
     println!(
         "seed {seed}: {} runs, {} steps compared ({} late, refused 6 to 11: {:?}), 0 differences",

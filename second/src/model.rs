@@ -5,32 +5,48 @@ pub const FIGURE: u128 = 1_000_000;
 pub const LIMIT: u128 = 1_000_000_000;
 
 #[derive(Clone, Copy, Debug, PartialEq)]
-pub struct Row {
+pub struct Task {
+    pub cost: u128,
+    pub period: u128,
+    pub deadline: u128,
+}
+
+#[derive(Clone, Copy, Debug, PartialEq)]
+pub struct Handler {
     pub cost: u128,
     pub period: u128,
 }
 
-/// The rows of a flat list, or the numbers left over.
-pub fn rows(list: &[u32]) -> Vec<Row> {
-    list.chunks_exact(2).map(|r| Row { cost: r[0] as u128, period: r[1] as u128 }).collect()
+/// The tasks of a flat list: three numbers each.
+pub fn tasks_of(list: &[u32]) -> Vec<Task> {
+    list.chunks_exact(3).map(|r| Task { cost: r[0] as u128, period: r[1] as u128, deadline: r[2] as u128 }).collect()
 }
 
-/// Refusals 1 to 3 of a table, 0 for none.
+/// The handlers of a flat list: two numbers each.
+pub fn handlers_of(list: &[u32]) -> Vec<Handler> {
+    list.chunks_exact(2).map(|r| Handler { cost: r[0] as u128, period: r[1] as u128 }).collect()
+}
+
+/// Refusals 1, 2, 3 and 13 of a table, in this order, 0 for none.
 pub fn table_refusal(tasks: &[u32], handlers: &[u32]) -> u32 {
-    if tasks.len() % 2 != 0 || handlers.len() % 2 != 0 {
+    if tasks.len() % 3 != 0 || handlers.len() % 2 != 0 {
         return 1;
     }
-    let (t, h) = (tasks.len() / 2, handlers.len() / 2);
-    if t < 1 || t > 64 || h > 16 {
+    let (t, h) = (tasks_of(tasks), handlers_of(handlers));
+    if t.is_empty() || t.len() > 64 || h.len() > 16 {
         return 2;
     }
-    if tasks.iter().chain(handlers).any(|&x| x == 0 || x as u128 > FIGURE) {
+    let bad = |x: u128| x == 0 || x > FIGURE;
+    if t.iter().any(|r| bad(r.cost) || bad(r.period)) || h.iter().any(|r| bad(r.cost) || bad(r.period)) {
         return 3;
+    }
+    if t.iter().any(|r| r.deadline == 0 || r.deadline > r.period) {
+        return 13;
     }
     0
 }
 
-/// The refusal of a question about an interval: 1, 2, 3 or 5, 0 for none.
+/// The refusal of a question about an interval: 1, 2, 3, 13 or 5, 0 for none.
 pub fn asked_refusal(tasks: &[u32], handlers: &[u32], l: u64) -> u32 {
     match table_refusal(tasks, handlers) {
         0 if l as u128 > LIMIT => 5,
@@ -39,7 +55,7 @@ pub fn asked_refusal(tasks: &[u32], handlers: &[u32], l: u64) -> u32 {
 }
 
 /// f(0), f(1), .., f(l), by the recurrence. The work called for grows with each arrival.
-pub fn handled(handlers: &[Row], l: u128) -> Vec<u128> {
+pub fn handled(handlers: &[Handler], l: u128) -> Vec<u128> {
     let mut f = vec![0];
     let mut work = 0;
     for tick in 1..=l {
@@ -54,11 +70,11 @@ pub fn handled(handlers: &[Row], l: u128) -> Vec<u128> {
     f
 }
 
-/// D(l): the multiples of each task's period up to l, counted.
-pub fn due(tasks: &[Row], l: u128) -> u128 {
+/// D(l): each task's deadlines up to l, counted, the first job arriving at 0.
+pub fn due(tasks: &[Task], l: u128) -> u128 {
     let mut work = 0;
     for t in tasks {
-        let mut at = t.period;
+        let mut at = t.deadline;
         while at <= l {
             work += t.cost;
             at += t.period;
@@ -68,11 +84,11 @@ pub fn due(tasks: &[Row], l: u128) -> u128 {
 }
 
 /// H by trial: the least multiple of the longest period that all periods divide, or none up to the limit.
-pub fn period(all: &[Row]) -> Option<u128> {
-    let longest = all.iter().map(|r| r.period).max()?;
+pub fn period(all: &[u128]) -> Option<u128> {
+    let longest = *all.iter().max()?;
     let mut h = longest;
     while h <= LIMIT {
-        if all.iter().all(|r| h % r.period == 0) {
+        if all.iter().all(|p| h % p == 0) {
             return Some(h);
         }
         h += longest;
@@ -88,10 +104,11 @@ pub fn verdict(tasks: &[u32], handlers: &[u32], patience: u128) -> Option<[u64; 
     if k != 0 {
         return refused(k);
     }
-    let (t, h) = (rows(tasks), rows(handlers));
-    let all: Vec<Row> = t.iter().chain(&h).copied().collect();
-    let Some(hyper) = period(&all) else { return refused(4) };
-    let whole: u128 = all.iter().map(|r| r.cost * (hyper / r.period)).sum();
+    let (t, h) = (tasks_of(tasks), handlers_of(handlers));
+    let periods: Vec<u128> = t.iter().map(|r| r.period).chain(h.iter().map(|r| r.period)).collect();
+    let Some(hyper) = period(&periods) else { return refused(4) };
+    let costs = t.iter().map(|r| r.cost).chain(h.iter().map(|r| r.cost));
+    let whole: u128 = costs.zip(&periods).map(|(c, p)| c * (hyper / p)).sum();
     let mut load = 1_000_000 * whole / hyper;
     if load * hyper < 1_000_000 * whole {
         load += 1;
@@ -102,7 +119,7 @@ pub fn verdict(tasks: &[u32], handlers: &[u32], patience: u128) -> Option<[u64; 
     let mut d = 0;
     for l in 1..=end {
         for task in &t {
-            if l % task.period == 0 {
+            if l >= task.deadline && (l - task.deadline) % task.period == 0 {
                 d += task.cost;
             }
         }

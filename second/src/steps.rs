@@ -8,9 +8,12 @@ use crate::tables::{self, Table};
 extern "C" {
     fn harness_fresh(
         tasks: *const u32, nt: usize, handlers: *const u32, nh: usize,
-        t: *mut u32, h: *mut u32, next: *mut u64, owed: *mut u64, figures: *mut u64,
+        t: *mut u32, h: *mut u32, next: *mut u64, due: *mut u64, owed: *mut u64, figures: *mut u64,
     );
-    fn harness_step(t: *const u32, h: *const u32, next: *mut u64, owed: *mut u64, figures: *mut u64, arrivals: *const u32, n: usize);
+    fn harness_step(
+        t: *const u32, h: *const u32, next: *mut u64, due: *mut u64, owed: *mut u64, figures: *mut u64,
+        arrivals: *const u32, n: usize,
+    );
 }
 
 fn late(number: u64) -> Option<u64> {
@@ -19,11 +22,11 @@ fn late(number: u64) -> Option<u64> {
 
 /// The proved fresh run, and its refusal.
 fn proved_fresh(table: &Table) -> (Run, u64) {
-    let (mut t, mut h, mut next, mut owed, mut g) = ([9u32; 128], [9u32; 32], [9u64; 80], [9u64; 80], [9u64; 9]);
+    let (mut t, mut h, mut next, mut due, mut owed, mut g) = ([9u32; 192], [9u32; 32], [9u64; 80], [9u64; 64], [9u64; 80], [9u64; 9]);
     unsafe {
         harness_fresh(
             table.tasks.as_ptr(), table.tasks.len(), table.handlers.as_ptr(), table.handlers.len(),
-            t.as_mut_ptr(), h.as_mut_ptr(), next.as_mut_ptr(), owed.as_mut_ptr(), g.as_mut_ptr(),
+            t.as_mut_ptr(), h.as_mut_ptr(), next.as_mut_ptr(), due.as_mut_ptr(), owed.as_mut_ptr(), g.as_mut_ptr(),
         )
     };
     let run = Run {
@@ -33,6 +36,7 @@ fn proved_fresh(table: &Table) -> (Run, u64) {
         handler_count: g[1],
         clock: g[2],
         next: next.to_vec(),
+        due: due.to_vec(),
         owed: owed.to_vec(),
         over: g[3] != 0,
         late: late(g[4]),
@@ -42,11 +46,11 @@ fn proved_fresh(table: &Table) -> (Run, u64) {
 
 /// The proved step.
 fn proved_step(run: &Run, arrivals: &[u32]) -> (Run, Answer) {
-    let (mut next, mut owed) = (run.next.clone(), run.owed.clone());
+    let (mut next, mut due, mut owed) = (run.next.clone(), run.due.clone(), run.owed.clone());
     let mut g = [run.task_count, run.handler_count, run.clock, run.over as u64, run.late.map_or(0, |i| i + 1), 0, 0, 0, 0];
     unsafe {
         harness_step(
-            run.tasks.as_ptr(), run.handlers.as_ptr(), next.as_mut_ptr(), owed.as_mut_ptr(), g.as_mut_ptr(),
+            run.tasks.as_ptr(), run.handlers.as_ptr(), next.as_mut_ptr(), due.as_mut_ptr(), owed.as_mut_ptr(), g.as_mut_ptr(),
             arrivals.as_ptr(), arrivals.len(),
         )
     };
@@ -57,6 +61,7 @@ fn proved_step(run: &Run, arrivals: &[u32]) -> (Run, Answer) {
         handler_count: g[1],
         clock: g[2],
         next,
+        due,
         owed,
         over: g[3] != 0,
         late: late(g[4]),
@@ -101,7 +106,7 @@ fn arrivals(random: &mut Random, run: &Run, eager: bool) -> Vec<u32> {
     let rows = n + run.handler_count as usize;
     let mut list: Vec<u32> = (0..rows)
         .map(|k| {
-            let cost = if k < n { run.tasks[2 * k] } else { run.handlers[2 * (k - n)] };
+            let cost = if k < n { run.tasks[3 * k] } else { run.handlers[2 * (k - n)] };
             let legal = run.next[k] <= run.clock;
             if legal && (eager || random.chance(3)) {
                 if eager { cost } else { random.from_to(1, cost as u64) as u32 }
@@ -160,15 +165,16 @@ pub fn made_elsewhere(random: &mut Random, counts: &mut Counts) -> Result<(), Di
     for _ in 0..random.from_to(0, 2) {
         let value = random.one_of(&any);
         let near = run.clock.saturating_add(random.below(4));
-        match random.below(9) {
+        match random.below(10) {
             0 => run.task_count = value,
             1 => run.handler_count = value,
             2 => run.clock = value,
             3 => run.next[random.below(80) as usize] = random.one_of(&[value, near]),
-            4 => run.owed[random.below(80) as usize] = random.one_of(&[value, near]),
-            5 => run.over = !run.over,
-            6 => run.late = late(random.below(4)),
-            7 => run.tasks[random.below(128) as usize] = value as u32,
+            4 => run.due[random.below(64) as usize] = random.one_of(&[value, near]),
+            5 => run.owed[random.below(80) as usize] = random.one_of(&[value, near]),
+            6 => run.over = !run.over,
+            7 => run.late = late(random.below(4)),
+            8 => run.tasks[random.below(192) as usize] = value as u32,
             _ => run.handlers[random.below(32) as usize] = value as u32,
         }
     }

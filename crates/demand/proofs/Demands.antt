@@ -2,12 +2,13 @@
 use mathlib.Core.List.{List, [], _∷_}
 use mathlib.Core.Logic.{_⊎_, inl, inr}
 use mathlib.Core.Path.{_≡_, refl, ap, _∙_}
-use native.Mathlib.Nat.{mul-zero, mul-le-mul-left, mul-add, div-eq-of-lt, eq-or-lt-of-le}
+use native.Mathlib.Nat.{mul-zero, mul-le-mul-left, mul-add, eq-or-lt-of-le}
 use native.Mathlib.Omega.{arith}
-use Prim.Native.Nat.{ℕ, suc, _+_, _-_, _*_, _/_, _≤_, _<_, min, max}
+use borrow.Author.Tests.{lt-ltb}
+use Prim.Native.Nat.{ℕ, suc, _+_, _-_, _*_, _≤_, _<_, min, max}
 use Rattle.demand.specs.Demands.{ceil, calledBy, dueBy, called, taken, handled, due, Passes, Fails}
-use Rattle.demand.specs.Rows.{Row, deadlineOf, total, Positive, Valid}
-use Rattle.demand.proofs.Divide.{jobs, jobs-plain, div-mono, div-sub, ceil-mono, ceil-zero, ceil-sub, le-or-lt}
+use Rattle.demand.specs.Rows.{Row, total, Positive, Sound, Valid}
+use Rattle.demand.proofs.Divide.{jobs, jobs-sub, within-jobs, within-le, ceil-mono, ceil-zero, ceil-sub, le-or-lt}
 use Rattle.demand.proofs.Sums.{each-map, each-row, total-le, total-sub, total-zero}
 use Rattle.demand.proofs.Taken.{taken-zero, taken-next, taken-le, taken-gain, taken-grows, taken-le-called, taken-sub, taken-at-most, taken-attained, Attained}
 
@@ -25,9 +26,13 @@ pub due-nil : (l : ℕ) → due [] l ≡ 0
 unfolding due total
 due-nil l = refl
 
-pub due-cons : (t : Row) (ts : List Row) (l : ℕ) → due (t ∷ ts) l ≡ t .cost * jobs l (deadlineOf t) (t .period) + due ts l
+-- One task's share, where its deadline is from 1 to its period.
+due-by : (l : ℕ) (r : Row) → Sound r → dueBy l r ≡ r .cost * jobs l (r .deadline) (r .period)
+due-by l r s = ap (λ (n : ℕ). r .cost * n) (within-jobs l (r .deadline) (r .period) (omega (arith, s)) (s .fits))
+
+pub due-cons : (t : Row) (ts : List Row) (l : ℕ) → Sound t → due (t ∷ ts) l ≡ t .cost * jobs l (t .deadline) (t .period) + due ts l
 unfolding due total
-due-cons t ts l = rw (jobs-plain l (t .period))
+due-cons t ts l s = rw (due-by l t s)
 
 -- ---- A: the work called for
 
@@ -101,18 +106,29 @@ handled-attained hs l = taken-attained (called hs) (called-zero hs) (λ m. calle
 
 pub due-zero : (ts : List Row) → Valid ts → due ts 0 ≡ 0
 unfolding due
-due-zero ts v = total-zero (dueBy 0) ts (each-map (λ r f. ap (λ (n : ℕ). r .cost * n) (div-eq-of-lt (omega (arith, f .some))) ∙ mul-zero (r .cost)) ts v)
+due-zero ts v = total-zero (dueBy 0) ts (each-map (λ r s. rw (lt-ltb 0 (r .deadline) (s .some)) (mul-zero (r .cost))) ts v)
 
-pub due-mono : (ts : List Row) {x y : ℕ} → x ≤ y → due ts x ≤ due ts y
+pub due-mono : (ts : List Row) → Positive ts → {x y : ℕ} → x ≤ y → due ts x ≤ due ts y
 unfolding due
-due-mono ts {x} {y} h = total-le (dueBy x) (dueBy y) ts (each-row (λ r. mul-le-mul-left (r .cost) (div-mono (r .period) h)) ts)
-
-pub due-sub : (ts : List Row) → Positive ts → (z x : ℕ) → due ts (z + x) ≤ called ts z + due ts x
-unfolding due called
-due-sub ts pos z x = total-sub (dueBy (z + x)) (calledBy z) (dueBy x) ts (each-map row ts pos)
+due-mono ts pos {x} {y} h = total-le (dueBy x) (dueBy y) ts (each-map row ts pos)
   where
-    row : (r : Row) → 0 < r .period → dueBy (z + x) r ≤ calledBy z r + dueBy x r
-    row r p = omega (arith, mul-le-mul-left (r .cost) (div-sub (r .period) z x p), mul-add (r .cost) (ceil z (r .period)) (x / r .period))
+    row : (r : Row) → 0 < r .period → dueBy x r ≤ dueBy y r
+    row r p = mul-le-mul-left (r .cost) (within-le x y (r .deadline) (r .deadline) (r .period) (r .period) p h (omega arith) (omega arith))
+
+-- In sum at most in parts, the first rounded up.
+pub due-sub : (ts : List Row) → Valid ts → (z x : ℕ) → due ts (z + x) ≤ called ts z + due ts x
+unfolding due called
+due-sub ts valid z x = total-sub (dueBy (z + x)) (calledBy z) (dueBy x) ts (each-map row ts valid)
+  where
+    row : (r : Row) → Sound r → dueBy (z + x) r ≤ calledBy z r + dueBy x r
+    row r s =
+        omega (
+          arith,
+          due-by (z + x) r s,
+          due-by x r s,
+          mul-le-mul-left (r .cost) (jobs-sub (r .deadline) (r .period) z x (omega (arith, s))),
+          mul-add (r .cost) (ceil z (r .period)) (jobs x (r .deadline) (r .period)),
+        )
 
 -- ---- lengths that pass
 

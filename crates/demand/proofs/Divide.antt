@@ -2,12 +2,13 @@
 --   jobs k d p   == arrivals a period p apart, the first at the first tick of k, that have their deadline, d ticks later, within k ticks
 --   le-or-lt     which of two numbers is the greater, to split a proof in two
 use mathlib.Core.Logic.{_⊎_, inl, inr}
-use mathlib.Core.Path.{_≡_, refl, ap}
+use mathlib.Core.Path.{_≡_, refl, ap, sym, _∙_}
 use native.Mathlib.Decide.{decLe}
-use native.Mathlib.Nat.{div-zero, div-mul-le-self, le-div-iff-mul-le, div-lt-iff-lt-mul, div-eq-sub-div, div-eq-of-lt, div-eq-of-lt-le, lt-div-mul-add, mul-le-mul-left}
+use native.Mathlib.Nat.{div-zero, div-mul-le-self, le-div-iff-mul-le, div-lt-iff-lt-mul, div-eq-sub-div, div-eq-of-lt, div-eq-of-lt-le, lt-div-mul-add, mul-le-mul-left, div-le-self}
 use native.Mathlib.Omega.{arith}
+use borrow.Author.Tests.{le-ltb, lt-ltb}
 use Prim.Native.Nat.{ℕ, zero, suc, _+_, _-_, _*_, _/_, _≤_, _<_}
-use Rattle.demand.specs.Demands.{ceil}
+use Rattle.demand.specs.Demands.{ceil, within}
 
 -- (k - d) / p rounded down and one more if d ≤ k, else 0, for d from 1 to p.
 abbrev pub jobs : ℕ → ℕ → ℕ → ℕ
@@ -23,6 +24,44 @@ le-or-lt a b = go (decLe a b)
 pub div-mono : (p : ℕ) {x y : ℕ} → x ≤ y → x / p ≤ y / p
 div-mono zero {x} {y} h = omega (arith, div-zero x, div-zero y)
 div-mono (suc p) {x} {y} h = le-div-iff-mul-le {k = suc p} (omega arith) .1 (omega (arith, div-mul-le-self x (suc p)))
+
+-- What D counts, as one division.
+pub within-jobs : (k d p : ℕ) → 0 < p → d ≤ p → within k d p ≡ jobs k d p
+within-jobs k d p pos l = go (le-or-lt d k)
+  where
+    go : (d ≤ k) ⊎ (k < d) → within k d p ≡ jobs k d p
+    go (inl h) =
+        let one : jobs k d p ≡ (k + (p - d) - p) / p + 1 = div-eq-sub-div pos (omega arith) in
+        let e : k + (p - d) - p ≡ k - d = omega arith in
+        rw (le-ltb k d h) (sym (one ∙ ap (λ (z : ℕ). z / p + 1) e))
+    go (inr h) = rw (lt-ltb k d h) (sym (div-eq-of-lt (omega arith)))
+
+-- A longer interval counts no fewer, a longer period and a later deadline no more.
+pub within-le : (x y d e p q : ℕ) → 0 < q → x ≤ y → q ≤ p → e ≤ d → within x d p ≤ within y e q
+within-le x y d e p q pos h l m = go (le-or-lt d x)
+  where
+    fewer : (x - d) / p ≤ (y - e) / q
+    fewer = le-div-iff-mul-le pos .1 (omega (arith, div-mul-le-self (x - d) p, mul-le-mul-left ((x - d) / p) l))
+
+    go : (d ≤ x) ⊎ (x < d) → within x d p ≤ within y e q
+    go (inl k) = rw (le-ltb x d k, le-ltb y e (omega arith)) (omega (arith, fewer))
+    go (inr k) = rw (lt-ltb x d k) (omega arith)
+
+-- None before the first deadline; behind it their periods are at most the ticks and one period.
+pub within-mul : (k d p : ℕ) → (within k d p ≡ 0) ⊎ ((d ≤ k) × (within k d p * p ≤ k + p))
+within-mul k d p = go (le-or-lt d k)
+  where
+    go : (d ≤ k) ⊎ (k < d) → (within k d p ≡ 0) ⊎ ((d ≤ k) × (within k d p * p ≤ k + p))
+    go (inl h) = inr (h, rw (le-ltb k d h) (omega (arith, div-mul-le-self (k - d) p)))
+    go (inr h) = inl (rw (lt-ltb k d h))
+
+-- At most one for each tick, and one more.
+pub within-most : (k d p : ℕ) → within k d p ≤ k + 1
+within-most k d p = go (le-or-lt d k)
+  where
+    go : (d ≤ k) ⊎ (k < d) → within k d p ≤ k + 1
+    go (inl h) = rw (le-ltb k d h) (omega (arith, div-le-self (k - d) p))
+    go (inr h) = rw (lt-ltb k d h) (omega arith)
 
 -- Where the deadline is the period, division.
 pub jobs-plain : (k p : ℕ) → jobs k p p ≡ k / p
@@ -114,14 +153,20 @@ ceil-le a (suc x) pos =
 pub ceil-until : (a t x : ℕ) → 0 < a → t < x → x ≤ suc (t / a) * a → ceil x a ≡ suc (t / a)
 ceil-until a t x pos l h = div-eq-of-lt-le a (omega (arith, div-mul-le-self t a)) (omega arith)
 
--- Rounded down: the same at every tick before it.
-pub div-until : (p t x : ℕ) → 0 < p → t ≤ x → x < suc (t / p) * p → x / p ≡ t / p
-div-until p t x pos l h = div-eq-of-lt-le p (omega (arith, div-mul-le-self t p)) (omega arith)
+-- ---- between two deadlines a count stays
 
--- And a tick that is no multiple of the period adds nothing.
-pub div-next : (p l : ℕ) → 0 < p → ((n : ℕ) → suc l ≡ n * p → ⊥) → suc l / p ≡ l / p
-div-next p l pos none = go (le-or-lt (suc (l / p) * p) (suc l))
+-- The first deadline that has not been counted lies above.
+pub jobs-above : (t d p : ℕ) → 0 < p → d ≤ p → t < d + jobs t d p * p
+jobs-above t d p pos l = omega (arith, lt-div-mul-add {a = t + (p - d)} pos)
+
+-- The count is the same at every tick before it.
+pub jobs-until : (t x d p : ℕ) → d ≤ p → t ≤ x → x < d + jobs t d p * p → jobs x d p ≡ jobs t d p
+jobs-until t x d p l h m = div-eq-of-lt-le p (omega (arith, jobs-mul-le t d p)) (omega arith)
+
+-- And a tick that is no deadline adds nothing.
+pub jobs-next : (l d p : ℕ) → 0 < p → d ≤ p → ((n : ℕ) → suc l ≡ d + n * p → ⊥) → jobs (suc l) d p ≡ jobs l d p
+jobs-next l d p pos h none = go (le-or-lt (d + jobs l d p * p) (suc l))
   where
-    go : (suc (l / p) * p ≤ suc l) ⊎ (suc l < suc (l / p) * p) → suc l / p ≡ l / p
-    go (inl h) = absurd (none (suc (l / p)) (omega (arith, lt-div-mul-add {a = l} pos)))
-    go (inr h) = div-until p l (suc l) pos (omega arith) h
+    go : (d + jobs l d p * p ≤ suc l) ⊎ (suc l < d + jobs l d p * p) → jobs (suc l) d p ≡ jobs l d p
+    go (inl m) = absurd (none (jobs l d p) (omega (arith, jobs-above l d p pos h)))
+    go (inr m) = jobs-until l (suc l) d p h (omega arith) m

@@ -7,7 +7,7 @@ use Rattle.demand.specs.Demands.{calledBy, dueBy, called, handled, due, 
 use Rattle.demand.specs.Lighter.{Eased, Lighter}
 use Rattle.demand.specs.Lighter.Lighter.{none, dropped, eased}
 use Rattle.demand.specs.Rows.{Row, total, Positive}
-use Rattle.demand.proofs.Divide.{ceil-longer, jobs-longer, jobs-plain}
+use Rattle.demand.proofs.Divide.{ceil-longer, within-le}
 use Rattle.demand.proofs.Taken.{taken-mono}
 
 -- Any figure that an eased row has no more of.
@@ -31,7 +31,7 @@ due-lighter l pos w = total-lighter (dueBy l) row pos w
   where
     row : (r q : Row) → 0 < q .period → Eased r q → dueBy l r ≤ dueBy l q
     row r q p e =
-        mul-le-mul (e .cost) (omega (arith, jobs-longer l (r .period) (q .period) (r .period) (q .period) p (e .period) (e .deadline), jobs-plain l (r .period), jobs-plain l (q .period)))
+        mul-le-mul (e .cost) (within-le l l (r .deadline) (q .deadline) (r .period) (q .period) p (omega arith) (e .period) (e .deadline))
 
 pub passes-lighter : (l : ℕ) {ts hs ts' hs' : List Row} → Positive ts' → Positive hs' → Lighter ts ts' → Lighter hs hs' → Passes ts' hs' l → Passes ts hs l
 passes-lighter l pt ph wt wh passes = omega (arith, handled-lighter l ph wh, due-lighter l pt wt)

@@ -1,37 +1,45 @@
 -- Totals over fair rows fit a word.
 use mathlib.Core.List.{List}
+use mathlib.Core.Logic.{_⊎_, inl, inr}
 use mathlib.Core.Path.{_≡_}
-use native.Mathlib.Nat.{mul-le-mul, div-le-self, le-trans}
+use native.Mathlib.Nat.{mul-le-mul, le-trans}
 use native.Mathlib.Omega.{arith}
-use Prim.Native.Nat.{ℕ, _-_, _≤_}
-use Rattle.demand.specs.Demands.{calledBy, dueBy, called, due}
+use Prim.Native.Nat.{ℕ, _+_, _*_, _^_, _≤_, _<_}
+use Rattle.demand.specs.Demands.{calledBy, within, dueBy, called, due}
 use Rattle.demand.specs.Limits.{ticksMost}
 use Rattle.demand.specs.Refusals.{tableRefusal, askedRefusal, FairRow}
 use Rattle.demand.specs.Rows.{Row, tasksOf, handlersOf, Each, Positive, Valid}
-use Rattle.demand.specs.Walk.{Small}
-use Rattle.demand.proofs.Divide.{ceil-le}
+use Rattle.demand.specs.Walk.{deadlineAfter, Small}
+use Rattle.demand.proofs.Divide.{ceil-le, within-most, within-mul}
 use Rattle.demand.proofs.Refused.{refusal-in-range, asked-in-range}
 use Rattle.demand.proofs.Sums.{each-map, total-most}
 
 pub fair-positive : (rs : List Row) → Each FairRow rs → Positive rs
 fair-positive rs f = each-map (λ r g. g .period .least) rs f
 
-pub fair-valid : (rs : List Row) → Each FairRow rs → Valid rs
-fair-valid rs f = each-map (λ r g. record { some = g .period .least; fits = omega arith }) rs f
-
 pub small-less : (rs : List Row) (l m : ℕ) → l ≤ m → Small rs m → Small rs l
 small-less rs l m h s = record { rows = s .rows; count = s .count; ticks = omega (arith, s .ticks) }
 
--- One row: at most a million of cost for each of a thousand million ticks.
-pub due-by-most : (l : ℕ) (r : Row) → l ≤ ticksMost → FairRow r → dueBy l r ≤ 1000000000000000
-due-by-most l r h f = mul-le-mul (f .cost .most) (le-trans (div-le-self l (r .period)) h)
+-- One row: at most a million of cost for each of a thousand million ticks, and for one more.
+pub due-by-most : (l : ℕ) (r : Row) → l ≤ ticksMost → FairRow r → dueBy l r ≤ 1000000001000000
+due-by-most l r h f =
+    let few : within l (r .deadline) (r .period) ≤ 1000000001 = omega (arith, within-most l (r .deadline) (r .period)) in
+    mul-le-mul (f .cost .most) few
 
 pub called-by-most : (l : ℕ) (r : Row) → l ≤ ticksMost → FairRow r → calledBy l r ≤ 1000000000000000
 called-by-most l r h f = mul-le-mul (f .cost .most) (le-trans (ceil-le (r .period) l (f .period .least)) h)
 
-pub due-most : (rs : List Row) (l : ℕ) → Small rs l → due rs l ≤ 64000000000000000
+-- The next deadline fits a word, as the row's own does.
+pub after-fits : (at : ℕ) (r : Row) → at ≤ ticksMost → FairRow r → r .deadline < 2 ^ 64 → deadlineAfter at r < 2 ^ 64
+after-fits at r h f own = go (within-mul at (r .deadline) (r .period))
+  where
+    go : (within at (r .deadline) (r .period) ≡ 0) ⊎ ((r .deadline ≤ at) × (within at (r .deadline) (r .period) * r .period ≤ at + r .period)) → deadlineAfter at r < 2 ^ 64
+    go (inl none) = rw none (omega arith)
+    go (inr (early, few)) = omega (arith, f .period .most)
+
+pub due-most : (rs : List Row) (l : ℕ) → Small rs l → due rs l ≤ 64000000064000000
 unfolding due
-due-most rs l s = omega (arith, total-most 1000000000000000 (dueBy l) rs (each-map (λ r f. due-by-most l r (s .ticks) f) rs (s .rows)), s .count)
+due-most rs l s = omega (arith, total-most 1000000001000000 (dueBy l) rs (each-map (λ r f. due-by-most l r (s .ticks) f) rs (s .rows)), s .count)
 
 pub called-most : (rs : List Row) (l : ℕ) → Small rs l → called rs l ≤ 64000000000000000
 unfolding called
@@ -40,7 +48,7 @@ called-most rs l s = omega (arith, total-most 1000000000000000 (calledBy l) rs (
 -- The rows of a table without a refusal of its own.
 module _ (t h : List ℕ) (e : tableRefusal t h ≡ 0) where
   pub tasks-valid : Valid (tasksOf t)
-  tasks-valid = fair-valid (tasksOf t) (refusal-in-range t h e .tasks)
+  tasks-valid = refusal-in-range t h e .deadlines
 
   pub handlers-positive : Positive (handlersOf h)
   handlers-positive = fair-positive (handlersOf h) (refusal-in-range t h e .handlers)

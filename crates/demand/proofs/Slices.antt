@@ -1,45 +1,73 @@
--- The rows of a lent list, read as the code reads them: two numbers at the head, and the list from its third number on.
+-- The rows of a lent list, read as the code reads them: the numbers of a row at the head, and the list behind them.
 use mathlib.Core.Bool.{Bool, false, _||_}
 use mathlib.Core.List.{List, [], _∷_}
 use mathlib.Core.Path.{_≡_, refl, ap, sym, _∙_}
-use native.Mathlib.Numerals.{add-one}
 use native.Mathlib.Omega.{arith}
-use Prim.Native.Nat.{ℕ, _+_, _-_, _*_, _/_, _≤_, _<_, min}
+use Prim.Native.Nat.{ℕ, _+_, _-_, _/_, _≤_, _<_, min}
 use lib.ListN.{length, getD, take, drop, length-drop}
 use lib.Seq.{take-all, drop-drop}
 use Rattle.demand.specs.Demands.{calledBy, dueBy, called, due}
 use Rattle.demand.specs.Refusals.{FairRow}
-use Rattle.demand.specs.Rows.{Row, rowsOf, total, some}
-use Rattle.demand.specs.Walk.{rest, nextMultiple, Small}
+use Rattle.demand.specs.Rows.{Row, tasksOf, handlersOf, rowsOf, width, total, some}
+use Rattle.demand.specs.Walk.{rest, deadlineAfter, nextDeadline, Small}
+use Rattle.demand.specs.declared.readable.Kind.{Kind}
+use Rattle.demand.specs.declared.readable.Kind.the-variants.{Task, Handler}
+use Rattle.demand.proofs.Between.{Plain}
 
--- the row at the head
-abbrev pub head : List ℕ → Row
-head s = record { cost = getD s 0 0; period = getD s 1 0 }
+pub width-least : (kind : Kind) → 2 ≤ width kind
+width-least Task = omega arith
+width-least Handler = omega arith
 
-pub rest-length : (s : List ℕ) → length (rest s) ≡ length s - 2
-rest-length s = rw (take-all (length s - 2) (drop 2 s) (omega (arith, length-drop 2 s))) (length-drop 2 s)
+pub width-most : (kind : Kind) → width kind ≤ 3
+width-most Task = omega arith
+width-most Handler = omega arith
 
-pub rows-short : (s : List ℕ) → length s < 2 → rowsOf s ≡ []
-unfolding rowsOf
-rows-short [] h = refl
-rows-short (c ∷ []) h = refl
-rows-short (c ∷ p ∷ s) h = absurd (omega arith)
+-- the row at the head: its last number is the deadline
+abbrev pub head : Kind → List ℕ → Row
+head kind s = record { cost = getD s 0 0; period = getD s 1 0; deadline = getD s (width kind - 1) 0 }
 
-pub rows-head : (s : List ℕ) → 2 ≤ length s → rowsOf s ≡ head s ∷ rowsOf (rest s)
-unfolding rowsOf
-rows-head [] h = absurd (omega arith)
-rows-head (c ∷ []) h = absurd (omega arith)
-rows-head (c ∷ p ∷ s) h =
-    ap (λ (z : List ℕ). record { cost = c; period = p } ∷ rowsOf z) (sym (take-all (length (c ∷ p ∷ s) - 2) s (omega arith)))
+pub rest-length : (kind : Kind) (s : List ℕ) → length (rest kind s) ≡ length s - width kind
+rest-length kind s = rw (take-all (length s - width kind) (drop (width kind) s) (omega (arith, length-drop (width kind) s))) (length-drop (width kind) s)
 
--- Two numbers a row.
-pub rows-count : (s : List ℕ) → length (rowsOf s) ≡ length s / 2
-unfolding rowsOf
-rows-count [] = refl
-rows-count (c ∷ []) = refl
-rows-count (c ∷ p ∷ s) = omega (arith, rows-count s)
+pub rows-short : (kind : Kind) (s : List ℕ) → length s < width kind → rowsOf kind s ≡ []
+unfolding tasksOf handlersOf
+rows-short Task [] h = refl
+rows-short Task (c ∷ []) h = refl
+rows-short Task (c ∷ p ∷ []) h = refl
+rows-short Task (c ∷ p ∷ d ∷ s) h = absurd (omega arith)
+rows-short Handler [] h = refl
+rows-short Handler (c ∷ []) h = refl
+rows-short Handler (c ∷ p ∷ s) h = absurd (omega arith)
 
--- The list from place i on, as the code lends it; two places further is the rest of it.
+pub rows-head : (kind : Kind) (s : List ℕ) → width kind ≤ length s → rowsOf kind s ≡ head kind s ∷ rowsOf kind (rest kind s)
+unfolding tasksOf handlersOf
+rows-head Task [] h = absurd (omega arith)
+rows-head Task (c ∷ []) h = absurd (omega arith)
+rows-head Task (c ∷ p ∷ []) h = absurd (omega arith)
+rows-head Task (c ∷ p ∷ d ∷ s) h =
+    ap (λ (z : List ℕ). record { cost = c; period = p; deadline = d } ∷ tasksOf z) (sym (take-all (length (c ∷ p ∷ d ∷ s) - 3) s (omega arith)))
+rows-head Handler [] h = absurd (omega arith)
+rows-head Handler (c ∷ []) h = absurd (omega arith)
+rows-head Handler (c ∷ p ∷ s) h =
+    ap (λ (z : List ℕ). record { cost = c; period = p; deadline = p } ∷ handlersOf z) (sym (take-all (length (c ∷ p ∷ s) - 2) s (omega arith)))
+
+pub rows-count : (kind : Kind) (s : List ℕ) → length (rowsOf kind s) ≡ length s / width kind
+unfolding tasksOf handlersOf
+rows-count Task [] = refl
+rows-count Task (c ∷ []) = refl
+rows-count Task (c ∷ p ∷ []) = refl
+rows-count Task (c ∷ p ∷ d ∷ s) = omega (arith, rows-count Task s)
+rows-count Handler [] = refl
+rows-count Handler (c ∷ []) = refl
+rows-count Handler (c ∷ p ∷ s) = omega (arith, rows-count Handler s)
+
+pub handlers-plain : (h : List ℕ) → Plain (handlersOf h)
+unfolding handlersOf
+handlers-plain [] = tt
+handlers-plain (c ∷ []) = tt
+handlers-plain (c ∷ p ∷ h) = (refl, handlers-plain h)
+
+-- The list from place i on, as the code lends it; a row further is the rest of it.
 abbrev pub from : ℕ → List ℕ → List ℕ
 from i s = take (length s - i) (drop i s)
 
@@ -52,63 +80,68 @@ from-length i s = rw from-is (length-drop i s)
 pub from-zero : (s : List ℕ) → from 0 s ≡ s
 from-zero s = from-is 0 s
 
-pub from-rest : (i : ℕ) (s : List ℕ) → rest (from i s) ≡ from (i + 2) s
-from-rest i s = from-is 2 (from i s) ∙ ap (drop 2) (from-is i s) ∙ drop-drop 2 i s ∙ sym (from-is (i + 2) s)
+pub from-rest : (kind : Kind) (i : ℕ) (s : List ℕ) → rest kind (from i s) ≡ from (i + width kind) s
+from-rest kind i s = from-is (width kind) (from i s) ∙ ap (drop (width kind)) (from-is i s) ∙ drop-drop (width kind) i s ∙ sym (from-is (i + width kind) s)
 
--- The row at the head, from the two numbers read there.
-pub head-read : (s : List ℕ) (c p : ℕ) → 2 ≤ length s → c ≡ getD s 0 0 → p ≡ getD s 1 0 → rowsOf s ≡ record { cost = c; period = p } ∷ rowsOf (rest s)
-head-read s c p h ec ep = rw (ec, ep) (rows-head s h)
+-- The rest, where the code has the width of a row in hand.
+pub from-width : (kind : Kind) (s : List ℕ) (n : ℕ) → n ≡ width kind → from n s ≡ rest kind s
+from-width kind s n e = ap (λ (m : ℕ). from m s) e
+
+-- The row at the head, from the numbers read there.
+pub head-read : (kind : Kind) (s : List ℕ) (c p d : ℕ) → width kind ≤ length s → c ≡ getD s 0 0 → p ≡ getD s 1 0 → d ≡ getD s (width kind - 1) 0
+    → rowsOf kind s ≡ record { cost = c; period = p; deadline = d } ∷ rowsOf kind (rest kind s)
+head-read kind s c p d h ec ep ed = rw (ec, ep, ed) (rows-head kind s h)
 
 -- ---- a function that goes row by row: no row is left
 
-module _ (s : List ℕ) (h : length s < 2) where
-  pub due-short : (l : ℕ) → due (rowsOf s) l ≡ 0
+module _ (kind : Kind) (s : List ℕ) (h : length s < width kind) where
+  pub due-short : (l : ℕ) → due (rowsOf kind s) l ≡ 0
   unfolding due total
-  due-short l = rw (rows-short s h)
+  due-short l = rw (rows-short kind s h)
 
-  pub called-short : (l : ℕ) → called (rowsOf s) l ≡ 0
+  pub called-short : (l : ℕ) → called (rowsOf kind s) l ≡ 0
   unfolding called total
-  called-short l = rw (rows-short s h)
+  called-short l = rw (rows-short kind s h)
 
-  pub some-short : (test : Row → Bool) → some test (rowsOf s) ≡ false
+  pub some-short : (test : Row → Bool) → some test (rowsOf kind s) ≡ false
   unfolding some
-  some-short test = rw (rows-short s h)
+  some-short test = rw (rows-short kind s h)
 
-  pub next-short : (at top : ℕ) → nextMultiple (rowsOf s) at top ≡ top
-  unfolding nextMultiple
-  next-short at top = rw (rows-short s h)
+  pub next-short : (at top : ℕ) → nextDeadline (rowsOf kind s) at top ≡ top
+  unfolding nextDeadline
+  next-short at top = rw (rows-short kind s h)
 
 -- ---- and one row and the rest
 
-module _ (s : List ℕ) (r : Row) (e : rowsOf s ≡ r ∷ rowsOf (rest s)) where
-  pub due-head : (l x : ℕ) → x ≡ due (rowsOf (rest s)) l → dueBy l r + x ≡ due (rowsOf s) l
+module _ (kind : Kind) (s : List ℕ) (r : Row) (e : rowsOf kind s ≡ r ∷ rowsOf kind (rest kind s)) where
+  pub due-head : (l x : ℕ) → x ≡ due (rowsOf kind (rest kind s)) l → dueBy l r + x ≡ due (rowsOf kind s) l
   unfolding due total
   due-head l x q = rw (e, q)
 
-  pub called-head : (l x : ℕ) → x ≡ called (rowsOf (rest s)) l → calledBy l r + x ≡ called (rowsOf s) l
+  pub called-head : (l x : ℕ) → x ≡ called (rowsOf kind (rest kind s)) l → calledBy l r + x ≡ called (rowsOf kind s) l
   unfolding called total
   called-head l x q = rw (e, q)
 
-  pub some-head : (test : Row → Bool) (b : Bool) → b ≡ some test (rowsOf (rest s)) → (test r || b) ≡ some test (rowsOf s)
+  pub some-head : (test : Row → Bool) (b : Bool) → b ≡ some test (rowsOf kind (rest kind s)) → (test r || b) ≡ some test (rowsOf kind s)
   unfolding some
   some-head test b q = rw (e, q)
 
-  pub fair-head : (l : ℕ) → Small (rowsOf s) l → FairRow r
+  pub fair-head : (l : ℕ) → Small (rowsOf kind s) l → FairRow r
   fair-head l h = (rw e at h) .rows .0
 
-  pub small-rest : (l : ℕ) → Small (rowsOf s) l → Small (rowsOf (rest s)) l
-  small-rest l h = let t : Small (r ∷ rowsOf (rest s)) l = rw e at h in record { rows = t .rows .1; count = omega (arith, t .count); ticks = t .ticks }
+  pub small-rest : (l : ℕ) → Small (rowsOf kind s) l → Small (rowsOf kind (rest kind s)) l
+  small-rest l h = let t : Small (r ∷ rowsOf kind (rest kind s)) l = rw e at h in record { rows = t .rows .1; count = omega (arith, t .count); ticks = t .ticks }
 
 -- ---- a loop that goes row by row: what is left after the row at place i
 
-module _ (s : List ℕ) (i : ℕ) (r : Row) (e : rowsOf (from i s) ≡ r ∷ rowsOf (rest (from i s))) where
-  pub next-turn : (at top m : ℕ) → m ≡ min ((at / r .period + 1) * r .period) top → nextMultiple (rowsOf (from (i + 2) s)) at m ≡ nextMultiple (rowsOf (from i s)) at top
-  unfolding nextMultiple
-  next-turn at top m em = rw (e, from-rest i s, em, add-one)
+module _ (kind : Kind) (s : List ℕ) (i : ℕ) (r : Row) (e : rowsOf kind (from i s) ≡ r ∷ rowsOf kind (rest kind (from i s))) where
+  pub next-turn : (at top m : ℕ) → m ≡ min (deadlineAfter at r) top → nextDeadline (rowsOf kind (from (i + width kind) s)) at m ≡ nextDeadline (rowsOf kind (from i s)) at top
+  unfolding nextDeadline
+  next-turn at top m em = rw (e, from-rest kind i s, em)
 
-  pub small-turn : (l : ℕ) → Small (rowsOf (from i s)) l → Small (rowsOf (from (i + 2) s)) l
-  small-turn l h = rw (from-rest i s) at (small-rest (from i s) r e l h)
+  pub small-turn : (l : ℕ) → Small (rowsOf kind (from i s)) l → Small (rowsOf kind (from (i + width kind) s)) l
+  small-turn l h = rw (from-rest kind i s) at (small-rest kind (from i s) r e l h)
 
 -- No row is left.
-pub next-over : (s : List ℕ) (i at top : ℕ) → length s ≤ i + 1 → top ≡ nextMultiple (rowsOf (from i s)) at top
-next-over s i at top h = sym (next-short (from i s) (omega (arith, from-length i s)) at top)
+pub next-over : (kind : Kind) (s : List ℕ) (i at top : ℕ) → length s < i + width kind → i ≤ length s → top ≡ nextDeadline (rowsOf kind (from i s)) at top
+next-over kind s i at top h l = sym (next-short kind (from i s) (omega (arith, from-length i s)) at top)

@@ -1,8 +1,9 @@
--- The two demands (01, "The two demands"). `x / p` is division rounded down.
+-- The two demands (01, "The two demands"; 02, M-101). `x / p` is division rounded down.
 --   ceil x a        == x / a rounded up, for a from 1
 --   called hs l     == A(l), the work that handlers hs are called for within l ticks
 --   taken a l       == of l ticks, those that go to work of which a x has been called for by the end of tick x
 --   handled hs l    == f(l), the ticks of those l that handlers hs take: taken of called
+--   within l d p    == how many jobs, a period p apart from the first tick on, have their deadline, d ticks later, within l ticks
 --   due ts l        == D(l), the work of tasks ts that is due within l ticks
 --   margin ts hs l  == l - f(l) - D(l), a signed number
 --   Passes ts hs l, Fails ts hs l   an interval of l ticks has room for both demands, has not
@@ -34,9 +35,13 @@ taken a (suc l) = grow (taken a l) (a (suc l))
 unfoldable pub handled : List Row → ℕ → ℕ
 handled hs l = taken (called hs) l
 
+-- with l at least the deadline, one more than (l - d) / p
+abbrev pub within : ℕ → ℕ → ℕ → ℕ
+within l d p = pick (ltb l d) 0 ((l - d) / p + 1)
+
 -- what one task has due within l ticks
 abbrev pub dueBy : ℕ → Row → ℕ
-dueBy l r = r .cost * (l / r .period)
+dueBy l r = r .cost * within l (r .deadline) (r .period)
 
 unfoldable pub due : List Row → ℕ → ℕ
 due ts l = total (dueBy l) ts

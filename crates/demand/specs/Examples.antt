@@ -5,40 +5,53 @@ use mathlib.Core.List.{[], _∷_}
 use mathlib.Core.Path.{_≡_, refl}
 use Prim.Native.Nat.{ℕ, _+_, _*_, _/_, _%_, min}
 use Rattle.demand.specs.Demands.{called, grow, taken, handled, due, margin}
-use Rattle.demand.specs.Rows.{Row, rowsOf, total}
+use Rattle.demand.specs.Rows.{Row, tasksOf, handlersOf, total}
 
 abbrev formulaTwo : ℕ → Row → ℕ
 formulaTwo l r = r .cost * (l / r .period) + min (r .cost) (l % r .period)
 
 -- Case 2: handler 1/2.
-pub case-2 : handled (rowsOf (1 ∷ 2 ∷ [])) 4 ≡ 2
-unfolding handled taken grow called total rowsOf
+pub case-2 : handled (handlersOf (1 ∷ 2 ∷ [])) 4 ≡ 2
+unfolding handled taken grow called total handlersOf
 case-2 = refl
 
 -- Case 3: handler 2/3. More is called for than can be taken.
-pub case-3-taken : handled (rowsOf (2 ∷ 3 ∷ [])) 4 ≡ 3
-unfolding handled taken grow called total rowsOf
+pub case-3-taken : handled (handlersOf (2 ∷ 3 ∷ [])) 4 ≡ 3
+unfolding handled taken grow called total handlersOf
 case-3-taken = refl
 
-pub case-3-called : called (rowsOf (2 ∷ 3 ∷ [])) 4 ≡ 4
-unfolding called total rowsOf
+pub case-3-called : called (handlersOf (2 ∷ 3 ∷ [])) 4 ≡ 4
+unfolding called total handlersOf
 case-3-called = refl
 
 -- Case 7: handlers 1/4 and 1/4.
-pub case-7-one : handled (rowsOf (1 ∷ 4 ∷ 1 ∷ 4 ∷ [])) 1 ≡ 1
-unfolding handled taken grow called total rowsOf
+pub case-7-one : handled (handlersOf (1 ∷ 4 ∷ 1 ∷ 4 ∷ [])) 1 ≡ 1
+unfolding handled taken grow called total handlersOf
 case-7-one = refl
 
-pub case-7-two : handled (rowsOf (1 ∷ 4 ∷ 1 ∷ 4 ∷ [])) 2 ≡ 2
-unfolding handled taken grow called total rowsOf
+pub case-7-two : handled (handlersOf (1 ∷ 4 ∷ 1 ∷ 4 ∷ [])) 2 ≡ 2
+unfolding handled taken grow called total handlersOf
 case-7-two = refl
 
 -- Formula 2 summed is not f: two ticks of one.
-pub case-7-formula-two : total (formulaTwo 1) (rowsOf (1 ∷ 4 ∷ 1 ∷ 4 ∷ [])) ≡ 2
-unfolding total rowsOf
+pub case-7-formula-two : total (formulaTwo 1) (handlersOf (1 ∷ 4 ∷ 1 ∷ 4 ∷ [])) ≡ 2
+unfolding total handlersOf
 case-7-formula-two = refl
 
 -- Case 9: tasks 2/5 and 4/8, handler 1/4. The margin at 10 is -1.
-pub case-9 : margin (rowsOf (2 ∷ 5 ∷ 4 ∷ 8 ∷ [])) (rowsOf (1 ∷ 4 ∷ [])) 10 ≡ negsuc 0
-unfolding margin handled taken grow called due total rowsOf
+pub case-9 : margin (tasksOf (2 ∷ 5 ∷ 5 ∷ 4 ∷ 8 ∷ 8 ∷ [])) (handlersOf (1 ∷ 4 ∷ [])) 10 ≡ negsuc 0
+unfolding margin handled taken grow called due total tasksOf handlersOf
 case-9 = refl
+
+-- M-101: a task of 1 in 4 that must be done within 2 ticks has its first deadline at 2 and its next at 6.
+pub short-deadline-early : due (tasksOf (1 ∷ 4 ∷ 2 ∷ [])) 1 ≡ 0
+unfolding due total tasksOf
+short-deadline-early = refl
+
+pub short-deadline-first : due (tasksOf (1 ∷ 4 ∷ 2 ∷ [])) 5 ≡ 1
+unfolding due total tasksOf
+short-deadline-first = refl
+
+pub short-deadline-next : due (tasksOf (1 ∷ 4 ∷ 2 ∷ [])) 6 ≡ 2
+unfolding due total tasksOf
+short-deadline-next = refl

@@ -1,20 +1,22 @@
--- Refusals 1, 2, 3 and 5 (01, "Numbered refusals"): the lowest number that applies, 0 where none does.
---   tableThen t h rest   == the number of the table's own refusal, 1 to 3, else rest: what the later tests say
+-- Refusals 1, 2, 3, 13 and 5 (01, "Numbered refusals"; 02, M-101): the first of them that applies, in this order, 0 where none does.
+--   tableThen t h rest   == the number of the table's own refusal, 1, 2, 3 or 13, else rest: what the later tests say
 --   tableRefusal t h     == the table's own
 --   askedRefusal t h l   == that of a question about the interval of l ticks
---   InRange ts hs        each figure of the table lies in its range: what no refusal of 1 to 3 comes to
+--   InRange ts hs        each figure of the table lies in its range: what no refusal of its own comes to
 use mathlib.Core.Bool.{Bool, _||_}
 use mathlib.Core.List.{List}
 use Prim.Native.Nat.{ℕ, _%_, _≤_}
 use lib.Dec.{eqb, ltb}
 use lib.ListN.{length}
 use Rattle.demand.specs.Limits.{figureMost, tasksMost, handlersMost, ticksMost}
-use Rattle.demand.specs.Rows.{Row, tasksOf, handlersOf, some, Each}
+use Rattle.demand.specs.Rows.{Row, tasksOf, handlersOf, width, some, Each, Valid}
 use Rattle.demand.specs.Tests.{refuse}
+use Rattle.demand.specs.declared.readable.Kind.{Kind}
+use Rattle.demand.specs.declared.readable.Kind.the-variants.{Task, Handler}
 
--- 1: a list has an odd count of numbers
-abbrev pub odd : List ℕ → Bool
-odd s = eqb (length s % 2) 1
+-- 1: a list of tasks is not in threes, or one of handlers not in twos
+abbrev pub uneven : Kind → List ℕ → Bool
+uneven kind s = ltb 0 (length s % width kind)
 
 -- 2: no task, over 64 tasks or over 16 handlers
 abbrev pub miscounted : List Row → List Row → Bool
@@ -27,12 +29,17 @@ outside x = eqb x 0 || ltb figureMost x
 abbrev pub rowOutside : Row → Bool
 rowOutside r = outside (r .cost) || outside (r .period)
 
+-- 13: a deadline is 0 or above its period
+abbrev pub deadlineOutside : Row → Bool
+deadlineOutside r = eqb (r .deadline) 0 || ltb (r .period) (r .deadline)
+
 unfoldable pub tableThen : List ℕ → List ℕ → ℕ → ℕ
 tableThen t h rest =
-    refuse 1 (odd t || odd h)
+    refuse 1 (uneven Task t || uneven Handler h)
     (refuse 2 (miscounted (tasksOf t) (handlersOf h))
     (refuse 3 (some rowOutside (tasksOf t) || some rowOutside (handlersOf h))
-    rest))
+    (refuse 13 (some deadlineOutside (tasksOf t))
+    rest)))
 
 unfoldable pub tableRefusal : List ℕ → List ℕ → ℕ
 tableRefusal t h = tableThen t h 0
@@ -53,6 +60,7 @@ pub record FairRow (r : Row) : Type 0 where
 pub record InRange (ts hs : List Row) : Type 0 where
   pub tasks : Each FairRow ts
   pub handlers : Each FairRow hs
+  pub deadlines : Valid ts
   pub some-task : 1 ≤ length ts
   pub tasks-most : length ts ≤ tasksMost
   pub handlers-most : length hs ≤ handlersMost

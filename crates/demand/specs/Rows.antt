@@ -1,8 +1,8 @@
--- The rows of a table (01, "Tables and figures"). A table is lent as two flat lists, tasks and handlers.
---   Row                      == a cost and a period
---   deadlineOf r             == the ticks that a job of task r has from its arrival: its period
---   rowsOf s                 == the rows of the flat list s: cost, period, cost, period, ..
---   tasksOf t, handlersOf h  == the rows of the list of tasks, of the list of handlers
+-- The rows of a table (01, "Tables and figures"; 02, M-101). A table is lent as two flat lists: tasks in threes, handlers in twos.
+--   Row                      == a cost, a period, and a deadline: the ticks that a job has from its arrival
+--   tasksOf t                == the rows of the list of tasks: cost, period, deadline, cost, ..
+--   handlersOf h             == the rows of the list of handlers: cost, period, cost, .., with the period for a deadline
+--   rowsOf kind s            == the rows of either; width kind is how many numbers a row has
 --   rowAt rs i               == the row at place i, noRow past the last
 --   total g rs               == the sum of g over the rows rs
 --   some test rs             == the test holds of a row of rs
@@ -13,28 +13,36 @@ use mathlib.Core.Bool.{Bool, false, _||_}
 use mathlib.Core.List.{List, [], _∷_}
 use lib.ListN.{getD}
 use Prim.Native.Nat.{ℕ, _+_, _≤_, _<_}
+use Rattle.demand.specs.declared.readable.Kind.{Kind}
+use Rattle.demand.specs.declared.readable.Kind.the-variants.{Task, Handler}
 
 pub record Row : Type 0 where
   pub cost : ℕ
   pub period : ℕ
+  pub deadline : ℕ
 
-abbrev pub deadlineOf : Row → ℕ
-deadlineOf r = r .period
+-- Fewer numbers than a row has are no row.
+unfoldable pub tasksOf : List ℕ → List Row
+tasksOf [] = []
+tasksOf (c ∷ []) = []
+tasksOf (c ∷ p ∷ []) = []
+tasksOf (c ∷ p ∷ d ∷ t) = record { cost = c; period = p; deadline = d } ∷ tasksOf t
 
--- A number without a second one is no row.
-unfoldable pub rowsOf : List ℕ → List Row
-rowsOf [] = []
-rowsOf (c ∷ []) = []
-rowsOf (c ∷ p ∷ s) = record { cost = c; period = p } ∷ rowsOf s
+unfoldable pub handlersOf : List ℕ → List Row
+handlersOf [] = []
+handlersOf (c ∷ []) = []
+handlersOf (c ∷ p ∷ h) = record { cost = c; period = p; deadline = p } ∷ handlersOf h
 
-abbrev pub tasksOf : List ℕ → List Row
-tasksOf t = rowsOf t
+abbrev pub rowsOf : Kind → List ℕ → List Row
+rowsOf Task t = tasksOf t
+rowsOf Handler h = handlersOf h
 
-abbrev pub handlersOf : List ℕ → List Row
-handlersOf h = rowsOf h
+abbrev pub width : Kind → ℕ
+width Task = 3
+width Handler = 2
 
 abbrev pub noRow : Row
-noRow = record { cost = 0; period = 0 }
+noRow = record { cost = 0; period = 0; deadline = 0 }
 
 abbrev pub rowAt : List Row → ℕ → Row
 rowAt rs i = getD rs i noRow
@@ -55,8 +63,8 @@ abbrev pub Positive : List Row → Type 0
 Positive rs = Each (λ r. 0 < r .period) rs
 
 pub record Sound (r : Row) : Type 0 where
-  pub some : 0 < deadlineOf r
-  pub fits : deadlineOf r ≤ r .period
+  pub some : 0 < r .deadline
+  pub fits : r .deadline ≤ r .period
 
 abbrev pub Valid : List Row → Type 0
 Valid ts = Each Sound ts

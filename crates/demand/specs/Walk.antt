@@ -1,25 +1,31 @@
--- How f and a search walk up: from one multiple of a period to the next. Nothing of 01 stands here.
---   nextMultiple rs at top  == the first multiple of a period of rs above `at`, or top where that comes first
---   rest s                  == the lent list s from its third number on
+-- How f and a search walk up: from one deadline of a row to the next, where each row arrives at 0 and every period. A handler's deadline is its period, so its next arrival. Nothing of 01 stands here.
+--   deadlineAfter at r      == the first deadline of row r above `at`
+--   nextDeadline rs at top  == the first deadline of a row of rs above `at`, or top where that comes first
+--   rest kind s             == the lent list s behind its first row
 --   rowOf r                 == the row that the code holds as r
 --   Small rs l              so few rows with such figures that a total over l ticks fits a word
 use mathlib.Core.List.{List, [], _∷_}
-use Prim.Native.Nat.{ℕ, suc, _-_, _*_, _/_, _≤_, min}
+use Prim.Native.Nat.{ℕ, _+_, _-_, _*_, _≤_, min}
 use lib.ListN.{length, take, drop}
+use Rattle.demand.specs.Demands.{within}
 use Rattle.demand.specs.Limits.{tasksMost, ticksMost}
 use Rattle.demand.specs.Refusals.{FairRow}
-use Rattle.demand.specs.Rows.{Row, Each}
+use Rattle.demand.specs.Rows.{Row, width, Each}
+use Rattle.demand.specs.declared.readable.Kind.{Kind}
 use Rattle.demand.specs.declared.readable.Row as code
 
-abbrev pub rest : List ℕ → List ℕ
-rest s = take (length s - 2) (drop 2 s)
+abbrev pub rest : Kind → List ℕ → List ℕ
+rest kind s = take (length s - width kind) (drop (width kind) s)
 
 abbrev pub rowOf : code.Row → Row
-rowOf r = record { cost = r .cost; period = r .period }
+rowOf r = record { cost = r .cost; period = r .period; deadline = r .deadline }
 
-unfoldable pub nextMultiple : List Row → ℕ → ℕ → ℕ
-nextMultiple [] at top = top
-nextMultiple (r ∷ rs) at top = nextMultiple rs at (min (suc (at / r .period) * r .period) top)
+abbrev pub deadlineAfter : ℕ → Row → ℕ
+deadlineAfter at r = r .deadline + within at (r .deadline) (r .period) * r .period
+
+unfoldable pub nextDeadline : List Row → ℕ → ℕ → ℕ
+nextDeadline [] at top = top
+nextDeadline (r ∷ rs) at top = nextDeadline rs at (min (deadlineAfter at r) top)
 
 pub record Small (rs : List Row) (l : ℕ) : Type 0 where
   pub rows : Each FairRow rs

@@ -5,14 +5,31 @@ ghost use Prim.Native.Nat.{_<_, _≤_};
 ghost use lib.ListN.{length};
 ghost use Rattle.demand.specs.Demands.{handled, due};
 ghost use Rattle.demand.specs.Refusals.{askedRefusal};
-ghost use Rattle.demand.specs.Rows.{rowsOf, tasksOf, handlersOf};
-ghost use Rattle.demand.specs.Walk.{rowOf, rest, nextMultiple, Small};
+ghost use Rattle.demand.specs.Rows.{rowsOf, width, tasksOf, handlersOf};
+ghost use Rattle.demand.specs.Walk.{rowOf, rest, nextDeadline, Small};
 use crate::rows;
 
-// A row: its cost and its period.
+// Which of the two lists of a table.
+pub enum Kind {
+    Task,
+    Handler,
+}
+
+// A row: its cost, its period and its deadline, which for a handler is the period.
 pub struct Row {
     pub cost: u64,
     pub period: u64,
+    pub deadline: u64,
+}
+
+// How many numbers a row has.
+pub fn width(kind: Kind) -> usize
+    ensures { λ r. ⌜ r ≡ width kind ⌝ }
+{
+    match kind {
+        Kind::Task => 3,
+        Kind::Handler => 2,
+    }
 }
 
 fn wide(x: u32) -> u64
@@ -21,14 +38,16 @@ fn wide(x: u32) -> u64
     x as u64
 }
 
-// The row at the head: the only place in the code that knows where its figures stand.
-pub fn head(s: &[u32]) -> Row
-    requires { ⌜ 2 ≤ length (now s) ⌝ }
-    ensures { λ r. ⌜ rowsOf (now (s .entry)) ≡ rowOf r ∷ rowsOf (rest (now (s .entry))) ⌝ }
+// The row at the head: the only place in the code that knows where its figures stand. The last of them is the deadline.
+pub fn head(kind: Kind, s: &[u32]) -> Row
+    requires { ⌜ width kind ≤ length (now s) ⌝ }
+    ensures { λ r. ⌜ rowsOf kind (now (s .entry)) ≡ rowOf r ∷ rowsOf kind (rest kind (now (s .entry))) ⌝ }
 {
+    let last = width(kind) - 1;
     Row {
         cost: wide(s[0]),
         period: wide(s[1]),
+        deadline: wide(s[last]),
     }
 }
 
@@ -40,12 +59,12 @@ pub fn due(tasks: &[u32], handlers: &[u32], l: u64) -> u64
     rows::due(tasks, l)
 }
 
-// The first multiple of a task's period above l, or top where that comes first.
+// The first deadline of a task above l, where all arrive at 0 and every period, or top where that comes first.
 pub fn next_length(tasks: &[u32], handlers: &[u32], l: u64, top: u64) -> u64
     requires { ⌜ askedRefusal (now tasks) (now handlers) l ≡ 0 ⌝ }
-    ensures { λ r. ⌜ r ≡ nextMultiple (tasksOf (now (tasks .entry))) l top ⌝ }
+    ensures { λ r. ⌜ r ≡ nextDeadline (tasksOf (now (tasks .entry))) l top ⌝ }
 {
-    rows::next_multiple(tasks, l, top)
+    rows::next_deadline(Kind::Task, tasks, l, top)
 }
 
 // f at m, from f at l: through the work called for at once, then on to the next arrival.
@@ -71,7 +90,7 @@ fn handled_on(handlers: &[u32], l: u64, f: u64, m: u64) -> u64
             taken += busy;
             at += busy;
         } else {
-            at = rows::next_multiple(handlers, at, m);
+            at = rows::next_deadline(Kind::Handler, handlers, at, m);
         }
     }
     taken

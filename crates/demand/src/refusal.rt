@@ -1,8 +1,9 @@
-// Refusals 1, 2, 3 and 5: the lowest number that applies, 0 where none does.
+// Refusals 1, 2, 3, 13 and 5: the first that applies, in this order, 0 where none does.
 ghost use mathlib.Core.Path.{_≡_};
-ghost use Rattle.demand.specs.Refusals.{odd, miscounted, outside, rowOutside, tableRefusal, askedRefusal};
+ghost use Rattle.demand.specs.Refusals.{uneven, miscounted, outside, rowOutside, deadlineOutside, tableRefusal, askedRefusal};
 ghost use Rattle.demand.specs.Rows.{rowsOf, tasksOf, handlersOf, some};
 use crate::readable;
+use crate::readable::Kind;
 
 pub const FIGURE_MOST: u64 = 1_000_000;
 
@@ -12,16 +13,16 @@ pub const HANDLERS_MOST: usize = 16;
 
 pub const TICKS_MOST: u64 = 1_000_000_000;
 
-fn odd(s: &[u32]) -> bool
-    ensures { λ r. ⌜ r ≡ odd (now (s .entry)) ⌝ }
+fn uneven(kind: Kind, s: &[u32]) -> bool
+    ensures { λ r. ⌜ r ≡ uneven kind (now (s .entry)) ⌝ }
 {
-    s.len() % 2 == 1
+    0 < s.len() % readable::width(kind)
 }
 
 fn miscounted(tasks: &[u32], handlers: &[u32]) -> bool
     ensures { λ r. ⌜ r ≡ miscounted (tasksOf (now (tasks .entry))) (handlersOf (now (handlers .entry))) ⌝ }
 {
-    let t = tasks.len() / 2;
+    let t = tasks.len() / 3;
     let h = handlers.len() / 2;
     (t == 0) | (TASKS_MOST < t) | (HANDLERS_MOST < h)
 }
@@ -32,30 +33,46 @@ fn outside(x: u64) -> bool
     (x == 0) | (FIGURE_MOST < x)
 }
 
-// Has some row of s a figure out of its range?
-fn some_outside(s: &[u32]) -> bool
-    ensures { λ r. ⌜ r ≡ some rowOutside (rowsOf (now (s .entry))) ⌝ }
+// Has some row of s a cost or period out of its range?
+fn some_outside(kind: Kind, s: &[u32]) -> bool
+    ensures { λ r. ⌜ r ≡ some rowOutside (rowsOf kind (now (s .entry))) ⌝ }
 {
-    if s.len() < 2 {
+    let own = readable::width(kind);
+    if s.len() < own {
         return false;
     }
-    let row = readable::head(s);
-    let rest = some_outside(&s[2..]);
+    let row = readable::head(kind, s);
+    let rest = some_outside(kind, &s[own..]);
     outside(row.cost) | outside(row.period) | rest
 }
 
-// The table's own refusal, 1 to 3.
+// Has some task a deadline out of its range?
+fn some_deadline_outside(tasks: &[u32]) -> bool
+    ensures { λ r. ⌜ r ≡ some deadlineOutside (tasksOf (now (tasks .entry))) ⌝ }
+{
+    if tasks.len() < 3 {
+        return false;
+    }
+    let task = readable::head(Kind::Task, tasks);
+    let rest = some_deadline_outside(&tasks[3..]);
+    (task.deadline == 0) | (task.period < task.deadline) | rest
+}
+
+// The table's own refusal, 1, 2, 3 or 13.
 pub fn of_table(tasks: &[u32], handlers: &[u32]) -> u32
     ensures { λ r. ⌜ r ≡ tableRefusal (now (tasks .entry)) (now (handlers .entry)) ⌝ }
 {
-    if odd(tasks) | odd(handlers) {
+    if uneven(Kind::Task, tasks) | uneven(Kind::Handler, handlers) {
         return 1;
     }
     if miscounted(tasks, handlers) {
         return 2;
     }
-    if some_outside(tasks) | some_outside(handlers) {
+    if some_outside(Kind::Task, tasks) | some_outside(Kind::Handler, handlers) {
         return 3;
+    }
+    if some_deadline_outside(tasks) {
+        return 13;
     }
     0
 }

@@ -1,10 +1,13 @@
-// Totals over the rows of one lent list, each handing the list from its third number on to itself.
+// Totals over the rows of one lent list, each handing the list behind its first row on to itself.
 ghost use mathlib.Core.Path.{_≡_};
-ghost use Prim.Native.Nat.{min};
-ghost use Rattle.demand.specs.Demands.{called, due};
+ghost use Prim.Native.Nat.{_<_, _≤_, min};
+ghost use Rattle.demand.specs.Demands.{called, within, due};
+ghost use Rattle.demand.specs.Limits.{ticksMost};
 ghost use Rattle.demand.specs.Rows.{rowsOf, tasksOf, handlersOf};
-ghost use Rattle.demand.specs.Walk.{Small, nextMultiple};
+ghost use Rattle.demand.specs.Walk.{Small, nextDeadline};
+use crate::readable::Kind;
 use crate::readable::head;
+use crate::readable::width;
 
 pub fn lesser(a: u64, b: u64) -> u64
     ensures { λ r. ⌜ r ≡ min a b ⌝ }
@@ -12,17 +15,29 @@ pub fn lesser(a: u64, b: u64) -> u64
     if a < b { a } else { b }
 }
 
+// How many jobs have their deadline within l ticks, the first of them arriving at once.
+fn jobs(l: u64, deadline: u64, period: u64) -> u64
+    requires { ⌜ (l ≤ ticksMost) × (0 < period) ⌝ }
+    ensures { λ r. ⌜ r ≡ within l deadline period ⌝ }
+{
+    if l < deadline {
+        0
+    } else {
+        (l - deadline) / period + 1
+    }
+}
+
 // D: the work of tasks that is due within l ticks.
 pub fn due(tasks: &[u32], l: u64) -> u64
     requires { ⌜ Small (tasksOf (now tasks)) l ⌝ }
     ensures { λ r. ⌜ r ≡ due (tasksOf (now (tasks .entry))) l ⌝ }
 {
-    if tasks.len() < 2 {
+    if tasks.len() < 3 {
         return 0;
     }
-    let task = head(tasks);
-    let own = task.cost * (l / task.period);
-    own + due(&tasks[2..], l)
+    let task = head(Kind::Task, tasks);
+    let own = task.cost * jobs(l, task.deadline, task.period);
+    own + due(&tasks[3..], l)
 }
 
 // A: the work that handlers are called for within l ticks.
@@ -33,22 +48,24 @@ pub fn called(handlers: &[u32], l: u64) -> u64
     if handlers.len() < 2 {
         return 0;
     }
-    let handler = head(handlers);
+    let handler = head(Kind::Handler, handlers);
     let own = handler.cost * ((l + (handler.period - 1)) / handler.period);
     own + called(&handlers[2..], l)
 }
 
-// The first multiple of a row's period above at, or top where that comes first.
-pub fn next_multiple(s: &[u32], at: u64, top: u64) -> u64
-    requires { ⌜ Small (rowsOf (now s)) at ⌝ }
-    ensures { λ r. ⌜ r ≡ nextMultiple (rowsOf (now (s .entry))) at top ⌝ }
+// The first deadline of a row above at, or top where that comes first.
+pub fn next_deadline(kind: Kind, s: &[u32], at: u64, top: u64) -> u64
+    requires { ⌜ Small (rowsOf kind (now s)) at ⌝ }
+    ensures { λ r. ⌜ r ≡ nextDeadline (rowsOf kind (now (s .entry))) at top ⌝ }
 {
+    let step = width(kind);
     let mut first = top;
     let mut i = 0;
-    while i + 1 < s.len() {
-        let row = head(&s[i..]);
-        first = lesser((at / row.period + 1) * row.period, first);
-        i += 2;
+    while i + step <= s.len() {
+        let row = head(kind, &s[i..]);
+        let passed = jobs(at, row.deadline, row.period);
+        first = lesser(row.deadline + passed * row.period, first);
+        i += step;
     }
     first
 }

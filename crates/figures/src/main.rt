@@ -51,46 +51,76 @@ fn ask(what: &[u8], tasks: &[u32], handlers: &[u32], l: u64) {
 
 // The cases of the paper in which f, D or the margin is named.
 fn cases() {
-    ask(b"case 2", &[2, 4], &[1, 2], 4);
-    ask(b"case 3", &[1, 4], &[2, 3], 4);
-    ask(b"case 4", &[2, 4], &[2, 3], 4);
-    ask(b"case 5", &[1, 2], &[2, 10], 2);
-    ask(b"case 7", &[2, 4], &[1, 4, 1, 4], 1);
-    ask(b"case 7", &[2, 4], &[1, 4, 1, 4], 2);
-    ask(b"case 8", &[1, 1], &[1, 1000000], 1);
-    ask(b"case 9", &[2, 5, 4, 8], &[1, 4], 10);
-    ask(b"case 10", &[3, 2], &[], 2);
+    ask(b"case 2", &[2, 4, 4], &[1, 2], 4);
+    ask(b"case 3", &[1, 4, 4], &[2, 3], 4);
+    ask(b"case 4", &[2, 4, 4], &[2, 3], 4);
+    ask(b"case 5", &[1, 2, 2], &[2, 10], 2);
+    ask(b"case 7", &[2, 4, 4], &[1, 4, 1, 4], 1);
+    ask(b"case 7", &[2, 4, 4], &[1, 4, 1, 4], 2);
+    ask(b"case 8", &[1, 1, 1], &[1, 1000000], 1);
+    ask(b"case 9", &[2, 5, 5, 4, 8, 8], &[1, 4], 10);
+    ask(b"case 10", &[3, 2, 2], &[], 2);
+}
+
+// Deadlines before the next arrival: on both sides of the first and of the second.
+fn short_deadlines() {
+    ask(b"1 of 4 by 2", &[1, 4, 2], &[2, 10], 1);
+    ask(b"1 of 4 by 2", &[1, 4, 2], &[2, 10], 2);
+    ask(b"1 of 4 by 2", &[1, 4, 2], &[2, 10], 5);
+    ask(b"1 of 4 by 2", &[1, 4, 2], &[2, 10], 6);
+    ask(b"by the next tick", &[3, 5, 1, 2, 7, 4], &[], 11);
 }
 
 // The ends of the ranges.
 fn ends() {
-    ask(b"at rest", &[2, 5], &[1, 4], 0);
-    ask(b"longest", &[1, 1], &[1000000, 1], 1000000000);
-    ask(b"dearest", &[1000000, 1], &[], 1000000000);
-    ask(b"rarest", &[1000000, 1000000], &[1, 1000000], 999999999);
+    ask(b"at rest", &[2, 5, 5], &[1, 4], 0);
+    ask(b"longest", &[1, 1, 1], &[1000000, 1], 1000000000);
+    ask(b"dearest", &[1000000, 1, 1], &[], 1000000000);
+    ask(b"dearest at once", &[1000000, 1000000, 1], &[], 1000000000);
+    ask(
+        b"rarest",
+        &[1000000, 1000000, 1000000],
+        &[1, 1000000],
+        999999999,
+    );
 }
 
-// Each refusal, and the lowest of several.
-fn refusals() {
-    ask(b"odd tasks", &[2, 5, 4], &[1, 4], 10);
-    ask(b"odd handlers", &[2, 5], &[1], 10);
+// Counts that are refused, and those beside them that are not.
+fn counts() {
+    ask(b"tasks not in threes", &[2, 5, 5, 4], &[1, 4], 10);
+    ask(b"odd handlers", &[2, 5, 5], &[1], 10);
     ask(b"no task", &[], &[1, 4], 10);
-    ask(b"64 tasks", &[1; 128], &[], 10);
-    ask(b"65 tasks", &[1; 130], &[], 10);
-    ask(b"16 handlers", &[1, 1], &[1; 32], 10);
-    ask(b"17 handlers", &[1, 1], &[1; 34], 10);
-    ask(b"cost 0", &[0, 5], &[], 10);
-    ask(b"period 0", &[1, 5], &[1, 0], 10);
-    ask(b"cost 1000001", &[1000001, 5], &[], 10);
-    ask(b"period 1000001", &[1, 5], &[1, 1000001], 10);
-    ask(b"too long", &[2, 5], &[1, 4], 1000000001);
-    ask(b"1 before 2", &[1; 131], &[], 10);
+    ask(b"64 tasks", &[1; 192], &[], 10);
+    ask(b"65 tasks", &[1; 195], &[], 10);
+    ask(b"16 handlers", &[1, 1, 1], &[1; 32], 10);
+    ask(b"17 handlers", &[1, 1, 1], &[1; 34], 10);
+}
+
+// Figures that are refused.
+fn figures() {
+    ask(b"cost 0", &[0, 5, 5], &[], 10);
+    ask(b"period 0", &[1, 5, 5], &[1, 0], 10);
+    ask(b"cost 1000001", &[1000001, 5, 5], &[], 10);
+    ask(b"period 1000001", &[1, 5, 5], &[1, 1000001], 10);
+    ask(b"deadline 0", &[1, 5, 0], &[], 10);
+    ask(b"deadline above its period", &[1, 5, 6], &[], 10);
+    ask(b"too long", &[2, 5, 5], &[1, 4], 1000000001);
+}
+
+// The first of several refusals.
+fn orders() {
+    ask(b"1 before 2", &[1; 196], &[], 10);
     ask(b"2 before 3", &[], &[0, 0], 10);
-    ask(b"3 before 5", &[0, 5], &[], 1000000001);
+    ask(b"3 before 13", &[1, 5, 6], &[1, 0], 10);
+    ask(b"13 before 5", &[1, 5, 6], &[], 1000000001);
+    ask(b"3 before 5", &[0, 5, 5], &[], 1000000001);
 }
 
 fn main() {
     cases();
+    short_deadlines();
     ends();
-    refusals();
+    counts();
+    figures();
+    orders();
 }

@@ -86,9 +86,10 @@ fn step_figures(run: Run, answer: Answer) -> [u64; 9] {
 pub extern "C" fn harness_fresh(
     tasks: &[u32],
     handlers: &[u32],
-    t: &mut [u32; 128],
+    t: &mut [u32; 192],
     h: &mut [u32; 32],
     next: &mut [u64; 80],
+    due: &mut [u64; 64],
     owed: &mut [u64; 80],
     figures: &mut [u64; 9],
 ) {
@@ -98,10 +99,12 @@ pub extern "C" fn harness_fresh(
     let run_tasks = run.tasks;
     let run_handlers = run.handlers;
     let run_next = run.next;
+    let run_due = run.due;
     let run_owed = run.owed;
     *t = run_tasks;
     *h = run_handlers;
     *next = run_next;
+    *due = run_due;
     *owed = run_owed;
     *figures = run_figures(run, start_code(answer), Ran::Idle, Late::Nobody);
 }
@@ -109,9 +112,10 @@ pub extern "C" fn harness_fresh(
 // One step of the run in the lent arrays, whatever stands there.
 #[no_mangle]
 pub extern "C" fn harness_step(
-    t: &[u32; 128],
+    t: &[u32; 192],
     h: &[u32; 32],
     next: &mut [u64; 80],
+    due: &mut [u64; 64],
     owed: &mut [u64; 80],
     figures: &mut [u64; 9],
     arrivals: &[u32],
@@ -119,6 +123,7 @@ pub extern "C" fn harness_step(
     let tasks = *t;
     let handlers = *h;
     let old_next = *next;
+    let old_due = *due;
     let old_owed = *owed;
     let late = late_of(figures[4]);
     let run = Run {
@@ -128,6 +133,7 @@ pub extern "C" fn harness_step(
         handler_count: figures[1] as usize,
         clock: figures[2],
         next: old_next,
+        due: old_due,
         owed: old_owed,
         over: figures[3] != 0,
         late,
@@ -136,8 +142,10 @@ pub extern "C" fn harness_step(
     let after = stepped.run;
     let answer = stepped.answer;
     let new_next = after.next;
+    let new_due = after.due;
     let new_owed = after.owed;
     *next = new_next;
+    *due = new_due;
     *owed = new_owed;
     *figures = step_figures(after, answer);
 }

@@ -14,7 +14,7 @@ use Rattle.verdict.specs.Promise.{figures, LeastFailing}
 use Rattle.scheduler.specs.Guarantees.{Accepted, beatOf, beatsTo, syncRun, LateAt, LateExactly}
 use Rattle.scheduler.specs.Machine.{State, dueOf, pick, OnTime}
 use Rattle.scheduler.specs.Reached.{offeredBy}
-use Rattle.scheduler.specs.Runs.{dueIn}
+use Rattle.scheduler.specs.Scans.{at}
 use Rattle.scheduler.specs.Schedules.{sync}
 use Rattle.scheduler.specs.Steps.{stepOf}
 use Rattle.scheduler.specs.Tick.{lateRow}
@@ -60,10 +60,10 @@ module _ (t h : List ℕ) (e : tableRefusal t h ≡ 0) where
         (λ on. late (subst (λ (c : ℕ). OnTime c (sync (suc n) ts hs .tasks)) clock (subst (λ (v : State). OnTime (v .clock) (v .tasks)) view on)))
 
     -- The late row is that of the first task owed work at its deadline.
-    pub next-late : syncRun t h (suc n) .late ≡ lateRow (suc n) (dueIn (syncRun t h (suc n))) (syncRun t h (suc n) .owed) (syncRun t h (suc n) .«task_count»)
+    pub next-late : syncRun t h (suc n) .late ≡ lateRow (suc n) (at (syncRun t h (suc n) .due)) (syncRun t h (suc n) .owed) (syncRun t h (suc n) .«task_count»)
     next-late =
-        subst (λ (r : Run). r .late ≡ lateRow (suc n) (dueIn r) (r .owed) (r .«task_count»)) (sym (sync-next t h e n))
-        (subst (λ (c : ℕ). after .late ≡ lateRow c (dueIn after) (after .owed) (after .«task_count»)) (ap (λ (v : State). v .clock) view ∙ clock)
+        subst (λ (r : Run). r .late ≡ lateRow (suc n) (at (r .due)) (r .owed) (r .«task_count»)) (sym (sync-next t h e n))
+        (subst (λ (c : ℕ). after .late ≡ lateRow c (at (after .due)) (after .owed) (after .«task_count»)) (ap (λ (v : State). v .clock) view ∙ clock)
         (step-late dueOf (syncRun t h n) (beatOf t h n) (s .sound) a))
 
   -- The run at clock n: the machine's, and not over.
@@ -115,7 +115,7 @@ module _ (t h : List ℕ) (e : tableRefusal t h ≡ 0) where
               on-time = λ m short. going-below m short .going;
               over = ap (λ (k : ℕ). syncRun t h k .over) last ∙ next-over n (g .synced) (omega arith) (g .going) late;
               late =
-                  subst (λ (k : ℕ). syncRun t h k .late ≡ lateRow k (dueIn (syncRun t h k)) (syncRun t h k .owed) (syncRun t h k .«task_count»)) (sym last)
+                  subst (λ (k : ℕ). syncRun t h k .late ≡ lateRow k (at (syncRun t h k .due)) (syncRun t h k .owed) (syncRun t h k .«task_count»)) (sym last)
                   (next-late n (g .synced) (omega arith) (g .going));
             }
 

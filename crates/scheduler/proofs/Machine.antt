@@ -1,4 +1,5 @@
 -- The machine over rows at work: what it keeps, when it is late, and what no schedule can do.
+pub mod Ordered
 pub mod Room
 pub mod Invariant
 pub mod FullArrivals

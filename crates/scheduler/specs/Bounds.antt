@@ -1,10 +1,12 @@
 -- A run that is out of bounds, refusal 6 (01, "One tick of the scheduler"): each of its clauses, in its order. A clause is a test of a run; above it stands the test of one place that it asks of all.
---   tableRefused r     == its table meets 1, 2 or 3
+--   tableRefused r     == its table meets 1, 2, 3 or 13
 --   placesUsed r       == a place past its last row isn't 0
 --   clockPast r        == the clock is above its limit
 --   nextTooFar r       == a next arrival is above clock + period
 --   taskTooMuch r      == a task is owed more than its cost
 --   handlerTooMuch r   == a handler is owed more than clock times its cost
+--   dueTooFar r        == a task's deadline is above clock + the row's own (02, M-101)
+--   dueAfterNext r     == a task's deadline is after its next arrival (02, M-101)
 --   deadlineMissed r   == a task owed work has a deadline at or before the clock (not over) or before it (over)
 --   lateWrong r        == it is over and its late row isn't the first task owed work with deadline equal to the clock
 --   lateNamed r        == it is not over and names a late row
@@ -17,11 +19,11 @@ use Prim.Native.Nat.{ℕ, _+_, _*_}
 use lib.Dec.{ltb, leb, eqb}
 use lib.ListN.{getD, drop}
 use Rattle.demand.specs.Limits.{tasksMost, handlersMost, ticksMost}
-use Rattle.demand.specs.Refusals.{rowOutside}
+use Rattle.demand.specs.Refusals.{rowOutside, deadlineOutside}
 use Rattle.demand.specs.Rows.{Row}
 use Rattle.demand.specs.Tests.{pick}
-use Rattle.scheduler.specs.Runs.{rowIn, rowCount, dueIn}
-use Rattle.scheduler.specs.Scans.{any, used}
+use Rattle.scheduler.specs.Runs.{rowIn, rowCount}
+use Rattle.scheduler.specs.Scans.{at, any, used}
 use Rattle.scheduler.specs.Tick.{lateRow, isTask}
 use Rattle.scheduler.specs.declared.Late.{Late}
 use Rattle.scheduler.specs.declared.Late.the-variants as late
@@ -35,15 +37,23 @@ miscounts n m = eqb n 0 || ltb tasksMost n || ltb handlersMost m
 abbrev pub outsideAt : (ℕ → Row) → ℕ → Bool
 outsideAt row k = rowOutside (row k)
 
-abbrev pub tableRefused : Run → Bool
-tableRefused r = miscounts (r .«task_count») (r .«handler_count») || any (outsideAt (rowIn r)) (rowCount r)
+-- 13: a deadline is 0 or above its period
+abbrev pub deadlineOutsideAt : (ℕ → Row) → ℕ → Bool
+deadlineOutsideAt row k = deadlineOutside (row k)
 
--- In the table (two numbers a row), the next arrivals and the work owed alike.
+abbrev pub tableRefused : Run → Bool
+tableRefused r =
+    miscounts (r .«task_count») (r .«handler_count»)
+    || any (outsideAt (rowIn r)) (rowCount r)
+    || any (deadlineOutsideAt (rowIn r)) (r .«task_count»)
+
+-- In the table (three numbers a task, two a handler), the next arrivals, the deadlines (only tasks have one) and the work owed alike.
 abbrev pub placesUsed : Run → Bool
 placesUsed r =
-    used (drop (2 * r .«task_count») (r .tasks))
+    used (drop (3 * r .«task_count») (r .tasks))
     || used (drop (2 * r .«handler_count») (r .handlers))
     || used (drop (rowCount r) (r .next))
+    || used (drop (r .«task_count») (r .due))
     || used (drop (rowCount r) (r .owed))
 
 abbrev pub clockPast : Run → Bool
@@ -68,6 +78,18 @@ tooMuchBehind clock row owed n i = ltb (clock * row (n + i) .cost) (getD owed (n
 abbrev pub handlerTooMuch : Run → Bool
 handlerTooMuch r = any (tooMuchBehind (r .clock) (rowIn r) (r .owed) (r .«task_count»)) (r .«handler_count»)
 
+abbrev pub dueFar : ℕ → (ℕ → Row) → List ℕ → ℕ → Bool
+dueFar clock row due k = ltb (clock + row k .deadline) (getD due k 0)
+
+abbrev pub dueTooFar : Run → Bool
+dueTooFar r = any (dueFar (r .clock) (rowIn r) (r .due)) (r .«task_count»)
+
+abbrev pub dueBehind : List ℕ → List ℕ → ℕ → Bool
+dueBehind next due k = ltb (getD next k 0) (getD due k 0)
+
+abbrev pub dueAfterNext : Run → Bool
+dueAfterNext r = any (dueBehind (r .next) (r .due)) (r .«task_count»)
+
 abbrev pub passed : Bool → ℕ → ℕ → Bool
 passed over clock due = pick over (ltb due clock) (leb due clock)
 
@@ -75,7 +97,7 @@ abbrev pub missed : Bool → ℕ → (ℕ → ℕ) → List ℕ → ℕ → Bool
 missed over clock due owed k = ltb 0 (getD owed k 0) && passed over clock (due k)
 
 abbrev pub deadlineMissed : Run → Bool
-deadlineMissed r = any (missed (r .over) (r .clock) (dueIn r) (r .owed)) (r .«task_count»)
+deadlineMissed r = any (missed (r .over) (r .clock) (at (r .due)) (r .owed)) (r .«task_count»)
 
 -- The late row is named, and is that of the first late task.
 abbrev pub names : Late → Late → Bool
@@ -84,7 +106,7 @@ names (late.Task i) late.Nobody = false
 names (late.Task i) (late.Task j) = eqb i j
 
 abbrev pub lateWrong : Run → Bool
-lateWrong r = r .over && not (names (r .late) (lateRow (r .clock) (dueIn r) (r .owed) (r .«task_count»)))
+lateWrong r = r .over && not (names (r .late) (lateRow (r .clock) (at (r .due)) (r .owed) (r .«task_count»)))
 
 abbrev pub lateNamed : Run → Bool
 lateNamed r = not (r .over) && isTask (r .late)
@@ -97,6 +119,8 @@ outOfBounds r =
     || nextTooFar r
     || taskTooMuch r
     || handlerTooMuch r
+    || dueTooFar r
+    || dueAfterNext r
     || deadlineMissed r
     || lateWrong r
     || lateNamed r

@@ -23,7 +23,8 @@ use Rattle.verdict.specs.Promise.Word.{fits, misses}
 use Rattle.verdict.specs.declared.Answer as verdict
 use Rattle.scheduler.specs.Machine.{Live}
 use Rattle.scheduler.specs.Reached.{offered, Sound}
-use Rattle.scheduler.specs.Runs.{rowIn, rowCount, dueIn}
+use Rattle.scheduler.specs.Runs.{rowIn, rowCount}
+use Rattle.scheduler.specs.Scans.{at}
 use Rattle.scheduler.specs.Schedules.{beats, Timely, sync}
 use Rattle.scheduler.specs.Start.{freshOf}
 use Rattle.scheduler.specs.Steps.{stepRefusal, stepOf}
@@ -77,7 +78,7 @@ pub record LateAt (t h : List ℕ) (l : ℕ) : Type 0 where
   pub clock : (n : ℕ) → n ≤ l → syncRun t h n .clock ≡ n
   pub on-time : (n : ℕ) → n < l → syncRun t h n .over ≡ false
   pub over : syncRun t h l .over ≡ true
-  pub late : syncRun t h l .late ≡ lateRow l (dueIn (syncRun t h l)) (syncRun t h l .owed) (syncRun t h l .«task_count»)
+  pub late : syncRun t h l .late ≡ lateRow l (at (syncRun t h l .due)) (syncRun t h l .owed) (syncRun t h l .«task_count»)
 
 abbrev pub LateExactly : Type 0
 LateExactly = (t h : List ℕ) (r : verdict.Answer) → VerdictSays t h r → figures r .word ≡ misses → LateAt t h (figures r .interval)

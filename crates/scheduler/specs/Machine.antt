@@ -1,5 +1,5 @@
 -- The scheduler as a machine: its state, its arrivals and one tick of it (01, "One tick of the scheduler").
---   Live                   == a row at work: its next legal arrival and the work that it is owed
+--   Live                   == a row at work: its next legal arrival, the deadline of its last job and the work that it is owed
 --   dueOf x                == the deadline of the last job of task x
 --   State, Arrivals        == clock and rows at work; what one tick brings, a number for each row, 0 for no arrival
 --   tableOf xs             == the rows of the table, of rows at work
@@ -21,16 +21,16 @@
 use mathlib.Core.List.{List, [], _∷_}
 use mathlib.Core.Path.{_≡_}
 use Prim.Native.Nat.{ℕ, zero, suc, _+_, _-_, _≤_}
-use Rattle.demand.specs.Rows.{Row, deadlineOf}
+use Rattle.demand.specs.Rows.{Row}
 
 pub record Live : Type 0 where
   pub row : Row
   pub next : ℕ
+  pub due : ℕ
   pub owed : ℕ
 
--- An arrival at t makes `next` t + period, and so this t + deadline.
 abbrev pub dueOf : Live → ℕ
-dueOf x = x .next - (x .row .period - deadlineOf (x .row))
+dueOf x = x .due
 
 pub record State : Type 0 where
   pub clock : ℕ
@@ -47,7 +47,7 @@ tableOf (x ∷ xs) = x .row ∷ tableOf xs
 
 unfoldable pub idle : List Row → List Live
 idle [] = []
-idle (r ∷ rs) = record { row = r; next = 0; owed = 0 } ∷ idle rs
+idle (r ∷ rs) = record { row = r; next = 0; due = 0; owed = 0 } ∷ idle rs
 
 abbrev pub freshState : List Row → List Row → State
 freshState ts hs = record { clock = 0; tasks = idle ts; handlers = idle hs }
@@ -56,7 +56,7 @@ freshState ts hs = record { clock = 0; tasks = idle ts; handlers = idle hs }
 
 abbrev pub arrive : ℕ → ℕ → Live → Live
 arrive t zero x = x
-arrive t (suc w) x = record { row = x .row; next = t + x .row .period; owed = x .owed + suc w }
+arrive t (suc w) x = record { row = x .row; next = t + x .row .period; due = t + x .row .deadline; owed = x .owed + suc w }
 
 abbrev pub Legal : ℕ → ℕ → Live → Type 0
 Legal t zero x = Unit
@@ -93,7 +93,7 @@ before n xs = beforeBy dueOf n xs
 -- ---- who gets the tick
 
 abbrev pub left : ℕ → Live → Live
-left n x = record { row = x .row; next = x .next; owed = n }
+left n x = record { row = x .row; next = x .next; due = x .due; owed = n }
 
 -- x is owed o: it runs, or ys is what a tick makes of the rows xs behind it.
 abbrev pub served : ℕ → Live → List Live → List Live → List Live

@@ -11,7 +11,7 @@ use Rattle.scheduler.specs.Machine.{Live}
 use Rattle.scheduler.specs.Runs.{rowIn, rowCount}
 use Rattle.scheduler.specs.Start.{noRun, freshOf, startFigures}
 use Rattle.scheduler.specs.Steps.{stepRefusal, stepBy, stepOf, noFigures, figures}
-use Rattle.scheduler.specs.Tick.{nextArrived, owedArrived, GoesTo, keyWith}
+use Rattle.scheduler.specs.Tick.{nextArrived, dueArrived, owedArrived, GoesTo, keyWith}
 use Rattle.scheduler.specs.declared.Answer.the-variants.{Ticked}
 use Rattle.scheduler.specs.declared.Late.{Late}
 use Rattle.scheduler.specs.declared.Ran.{Ran}
@@ -21,8 +21,9 @@ abbrev pub TickRule : Type 0
 TickRule =
     (key : Live → ℕ) (r : Run) (ws : List ℕ) (ran : Ran) (late : Late) → stepBy key r ws .answer ≡ Ticked ran late
     → let next = nextArrived (r .clock) (rowIn r) ws (rowCount r) (r .next) in
+    let due = dueArrived (r .clock) (rowIn r) ws (r .«task_count») (r .due) in
     let owed = owedArrived ws (rowCount r) (r .owed) in
-    GoesTo (keyWith key r next owed) owed (r .«task_count») (r .«handler_count») ran
+    GoesTo (keyWith key r next due owed) owed (r .«task_count») (r .«handler_count») ran
 
 abbrev pub OnlyOne : Type 0
 OnlyOne = (key : ℕ → ℕ) (owed : List ℕ) (n m : ℕ) (a b : Ran) → GoesTo key owed n m a → GoesTo key owed n m b → a ≡ b

@@ -1,7 +1,7 @@
--- What `fresh` answers (01, "One tick of the scheduler"): a fresh run is made from a table, with refusals 1 to 3 only.
+-- What `fresh` answers (01, "One tick of the scheduler"): a fresh run is made from a table, with refusals 1 to 3 and 13 only (02, M-101).
 --   padded n xs     == xs, and zeros behind it to n numbers
---   zeros           == 80 zeros: a next arrival or work owed for each place
---   freshRun t h    == the fresh run of a table: clock 0, all arrivals and work 0, not over
+--   zeros n         == n zeros: a next arrival, a deadline or work owed for each place
+--   freshRun t h    == the fresh run of a table: clock 0, all arrivals, deadlines and work 0, not over
 --   noRun           == a run of zeros, beside a refusal
 --   freshOf t h     == the answer
 --   startFigures    == the paper's number for each case of an answer
@@ -23,14 +23,14 @@ use Rattle.scheduler.specs.declared.Start.the-variants.{Ready, Refused}
 unfoldable pub padded : ℕ → List ℕ → List ℕ
 padded n xs = xs ++ replicate (n - length xs) 0
 
-unfoldable pub zeros : List ℕ
-zeros = replicate 80 0
+unfoldable pub zeros : ℕ → List ℕ
+zeros n = replicate n 0
 
 unfoldable pub freshRun : List ℕ → List ℕ → Run
-freshRun t h = runOf (padded 128 t) (padded 32 h) (length (tasksOf t)) (length (handlersOf h)) 0 zeros zeros false Nobody
+freshRun t h = runOf (padded 192 t) (padded 32 h) (length (tasksOf t)) (length (handlersOf h)) 0 (zeros 80) (zeros 64) (zeros 80) false Nobody
 
 unfoldable pub noRun : Run
-noRun = runOf (replicate 128 0) (replicate 32 0) 0 0 0 zeros zeros false Nobody
+noRun = runOf (replicate 192 0) (replicate 32 0) 0 0 0 (zeros 80) (zeros 64) (zeros 80) false Nobody
 
 unfoldable pub freshOf : List ℕ → List ℕ → Fresh
 freshOf t h =

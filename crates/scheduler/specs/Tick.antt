@@ -1,5 +1,7 @@
 -- One tick (01, "One tick of the scheduler"), over the numbers that a run holds. Who of the tasks runs goes by a key, in 01 the deadline.
---   nextAfter, nextArrived, owedArrived   == a row's next legal arrival after an arrival of w; all rows' next arrivals and work owed after the arrivals ws
+--   ahead clock ticks w old   == a tick so many ticks ahead of the clock after an arrival of w, the old one without
+--   nextAfter, dueAfter       == a row's next legal arrival after an arrival of w; a task's deadline
+--   nextArrived, dueArrived, owedArrived   == all rows' next arrivals, all tasks' deadlines and all rows' work owed after the arrivals ws
 --   GoesTo key owed n m ran   the tick goes to ran, of n tasks and m handlers that are owed `owed`: 01's rule, word for word
 --   goesTo key owed n m       == the one to whom it goes
 --   better, earliest          == the task with the smallest key of those owed work, the lowest row of several, found row by row
@@ -19,8 +21,8 @@ use Rattle.demand.specs.Limits.{tasksMost, handlersMost}
 use Rattle.demand.specs.Rows.{Row}
 use Rattle.demand.specs.Tests.{pick}
 use Rattle.scheduler.specs.Machine.{Live}
-use Rattle.scheduler.specs.Runs.{runOf, rowIn, rowCount, dueWith}
-use Rattle.scheduler.specs.Scans.{firstOf, filled}
+use Rattle.scheduler.specs.Runs.{runOf, rowIn, rowCount}
+use Rattle.scheduler.specs.Scans.{at, firstOf, filled}
 use Rattle.scheduler.specs.declared.Answer.the-variants.{Ticked}
 use Rattle.scheduler.specs.declared.Late.{Late}
 use Rattle.scheduler.specs.declared.Late.the-variants as late
@@ -30,13 +32,22 @@ use Rattle.scheduler.specs.declared.Run.{Run}
 use Rattle.scheduler.specs.declared.Stepped.{Stepped}
 use Rattle.scheduler.specs.declared.tick.Best.{Best}
 
--- ---- arrivals add their work, and the row's next legal arrival becomes clock + period
+-- ---- arrivals add their work, and the row's next legal arrival becomes clock + period; a task's deadline becomes clock + its own (02, M-101)
+
+abbrev pub ahead : ℕ → ℕ → ℕ → ℕ → ℕ
+ahead clock ticks w old = pick (eqb w 0) old (clock + ticks)
 
 abbrev pub nextAfter : ℕ → Row → ℕ → ℕ → ℕ
-nextAfter clock row w next = pick (eqb w 0) next (clock + row .period)
+nextAfter clock row w next = ahead clock (row .period) w next
+
+abbrev pub dueAfter : ℕ → Row → ℕ → ℕ → ℕ
+dueAfter clock row w due = ahead clock (row .deadline) w due
 
 unfoldable pub nextArrived : ℕ → (ℕ → Row) → List ℕ → ℕ → List ℕ → List ℕ
 nextArrived clock row ws n next = filled (λ k. nextAfter clock (row k) (getD ws k 0) (getD next k 0)) n next
+
+unfoldable pub dueArrived : ℕ → (ℕ → Row) → List ℕ → ℕ → List ℕ → List ℕ
+dueArrived clock row ws n due = filled (λ k. dueAfter clock (row k) (getD ws k 0) (getD due k 0)) n due
 
 unfoldable pub owedArrived : List ℕ → ℕ → List ℕ → List ℕ
 owedArrived ws n owed = filled (λ k. getD owed k 0 + getD ws k 0) n owed
@@ -113,25 +124,29 @@ isTask (late.Task i) = true
 
 -- ---- the whole tick: the clock moves on by 1 between the two
 
-abbrev pub closed : Run → List ℕ → List ℕ → Ran → Bool → Late → Stepped
-closed r next owed ran over late = record {
-  run = runOf (r .tasks) (r .handlers) (r .«task_count») (r .«handler_count») (r .clock + 1) next owed over late;
+abbrev pub closed : Run → List ℕ → List ℕ → List ℕ → Ran → Bool → Late → Stepped
+closed r next due owed ran over late = record {
+  run = runOf (r .tasks) (r .handlers) (r .«task_count») (r .«handler_count») (r .clock + 1) next due owed over late;
   answer = Ticked ran late;
 }
 
-abbrev pub ended : Run → List ℕ → List ℕ → Ran → Late → Stepped
-ended r next owed ran late = closed r next owed ran (isTask late) late
+abbrev pub ended : Run → List ℕ → List ℕ → List ℕ → Ran → Late → Stepped
+ended r next due owed ran late = closed r next due owed ran (isTask late) late
 
 -- What is left of the tick once it is known to whom it goes.
-abbrev pub served : Run → List ℕ → List ℕ → Ran → Stepped
-served r next owed ran = ended r next (paid owed (r .«task_count») ran) ran (lateRow (r .clock + 1) (dueWith r next) (paid owed (r .«task_count») ran) (r .«task_count»))
+abbrev pub served : Run → List ℕ → List ℕ → List ℕ → Ran → Stepped
+served r next due owed ran = ended r next due (paid owed (r .«task_count») ran) ran (lateRow (r .clock + 1) (at due) (paid owed (r .«task_count») ran) (r .«task_count»))
 
-abbrev pub keyWith : (Live → ℕ) → Run → List ℕ → List ℕ → ℕ → ℕ
-keyWith key r next owed k = key (record { row = rowIn r k; next = getD next k 0; owed = getD owed k 0 })
+abbrev pub keyWith : (Live → ℕ) → Run → List ℕ → List ℕ → List ℕ → ℕ → ℕ
+keyWith key r next due owed k = key (record { row = rowIn r k; next = getD next k 0; due = getD due k 0; owed = getD owed k 0 })
 
--- The tick after the arrivals, where rows have these next arrivals and this work owed.
-abbrev pub given : (Live → ℕ) → Run → List ℕ → List ℕ → Stepped
-given key r next owed = served r next owed (goesTo (keyWith key r next owed) owed (r .«task_count») (r .«handler_count»))
+-- The tick after the arrivals, where rows have these next arrivals, deadlines and this work owed.
+abbrev pub given : (Live → ℕ) → Run → List ℕ → List ℕ → List ℕ → Stepped
+given key r next due owed = served r next due owed (goesTo (keyWith key r next due owed) owed (r .«task_count») (r .«handler_count»))
 
 unfoldable pub tickedBy : (Live → ℕ) → Run → List ℕ → Stepped
-tickedBy key r ws = given key r (nextArrived (r .clock) (rowIn r) ws (rowCount r) (r .next)) (owedArrived ws (rowCount r) (r .owed))
+tickedBy key r ws =
+    given key r
+    (nextArrived (r .clock) (rowIn r) ws (rowCount r) (r .next))
+    (dueArrived (r .clock) (rowIn r) ws (r .«task_count») (r .due))
+    (owedArrived ws (rowCount r) (r .owed))

@@ -4,11 +4,11 @@ ghost use mathlib.Core.Path.{_≡_};
 ghost use Prim.Native.Nat.{ℕ, _+_, _<_, _≤_};
 ghost use lib.ListN.{length, getD};
 ghost use Rattle.demand.specs.Limits.{ticksMost};
-ghost use Rattle.scheduler.specs.Bounds.{outsideAt};
+ghost use Rattle.scheduler.specs.Bounds.{outsideAt, deadlineOutsideAt};
 ghost use Rattle.scheduler.specs.Runs.{rowOn, Fitting};
 ghost use Rattle.scheduler.specs.Scans.{any};
 ghost use Rattle.scheduler.specs.Steps.{early, heavy};
-ghost use Rattle.scheduler.specs.Tick.{nextAfter, nextArrived, owedArrived};
+ghost use Rattle.scheduler.specs.Tick.{ahead, nextArrived, dueArrived, owedArrived};
 use crate::rows;
 
 fn wide(x: u32) -> u64
@@ -34,7 +34,7 @@ pub fn some_early(next: &[u64; 80], arrivals: &[u32], clock: u64) -> bool
 
 // Does an arrival bring more than its row's cost?
 pub fn some_heavy<'a>(
-    tasks: &'a [u32; 128],
+    tasks: &'a [u32; 192],
     handlers: &'a [u32; 32],
     n: usize,
     m: usize,
@@ -68,17 +68,18 @@ pub fn add_work(owed: &mut [u64; 80], arrivals: &[u32])
     }
 }
 
-fn next_after(clock: u64, period: u64, w: u32, next: u64) -> u64
-    requires { ⌜ (clock ≤ ticksMost) × (period ≤ 1000000) ⌝ }
-    ensures { λ r. ⌜ r ≡ nextAfter clock (record { cost = 0; period = period }) w next ⌝ }
+// An arrival of w puts a tick so many ticks ahead of the clock; without one the old tick stays.
+fn ahead(clock: u64, ticks: u64, w: u32, old: u64) -> u64
+    requires { ⌜ (clock ≤ ticksMost) × (ticks ≤ 1000000) ⌝ }
+    ensures { λ r. ⌜ r ≡ ahead clock ticks w old ⌝ }
 {
-    if w == 0 { next } else { clock + period }
+    if w == 0 { old } else { clock + ticks }
 }
 
 // An arrival makes its row's next legal arrival clock + period.
 pub fn move_next<'a>(
     next: &mut [u64; 80],
-    tasks: &'a [u32; 128],
+    tasks: &'a [u32; 192],
     handlers: &'a [u32; 32],
     n: usize,
     m: usize,
@@ -92,8 +93,31 @@ pub fn move_next<'a>(
     while k < arrivals.len() {
         let row = rows::row_at(tasks, handlers, n, m, k);
         let old = next[k];
-        let new = next_after(clock, row.period, arrivals[k], old);
+        let new = ahead(clock, row.period, arrivals[k], old);
         next[k] = new;
+        k += 1;
+    }
+}
+
+// An arrival makes its task's deadline clock + the task's own.
+pub fn move_due<'a>(
+    due: &mut [u64; 64],
+    tasks: &'a [u32; 192],
+    handlers: &'a [u32; 32],
+    n: usize,
+    m: usize,
+    clock: u64,
+    arrivals: &[u32],
+)
+    requires { ⌜ Fitting n m × (clock ≤ ticksMost) × (any (outsideAt (rowOn (now tasks) (now handlers) n)) (n + m) ≡ false) × (any (deadlineOutsideAt (rowOn (now tasks) (now handlers) n)) n ≡ false) × (length (now arrivals) ≡ n + m) ⌝ }
+    ensures { λ r. ⌜ now (due .exit) ≡ dueArrived clock (rowOn (now (tasks .entry)) (now (handlers .entry)) n) (now (arrivals .entry)) n (now (due .entry)) ⌝ }
+{
+    let mut k = 0;
+    while k < n {
+        let row = rows::row_at(tasks, handlers, n, m, k);
+        let old = due[k];
+        let new = ahead(clock, row.deadline, arrivals[k], old);
+        due[k] = new;
         k += 1;
     }
 }

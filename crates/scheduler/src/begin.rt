@@ -25,17 +25,18 @@ pub fn fresh_run(tasks: &[u32], handlers: &[u32]) -> Run
     requires { ⌜ tableRefusal (now tasks) (now handlers) ≡ 0 ⌝ }
     ensures { λ r. ⌜ r ≡ freshRun (now (tasks .entry)) (now (handlers .entry)) ⌝ }
 {
-    let mut t = [0u32; 128];
+    let mut t = [0u32; 192];
     let mut h = [0u32; 32];
     copy_in(&mut t, tasks);
     copy_in(&mut h, handlers);
     Run {
         tasks: t,
         handlers: h,
-        task_count: tasks.len() / 2,
+        task_count: tasks.len() / 3,
         handler_count: handlers.len() / 2,
         clock: 0,
         next: [0u64; 80],
+        due: [0u64; 64],
         owed: [0u64; 80],
         over: false,
         late: Late::Nobody,
@@ -47,12 +48,13 @@ pub fn no_run() -> Run
     ensures { λ r. ⌜ r ≡ noRun ⌝ }
 {
     Run {
-        tasks: [0u32; 128],
+        tasks: [0u32; 192],
         handlers: [0u32; 32],
         task_count: 0,
         handler_count: 0,
         clock: 0,
         next: [0u64; 80],
+        due: [0u64; 64],
         owed: [0u64; 80],
         over: false,
         late: Late::Nobody,

@@ -1,15 +1,16 @@
-// Refusal 6: is a run out of bounds? A function for each clause of the paper, in its order; that of places past the last row is in places.
+// Refusal 6: is a run out of bounds? A function for each clause of the paper, in its order; those of places past the last row and of deadlines are in places and deadlines.
 ghost use mathlib.Core.Bool.{false, not, _&&_, _||_};
 ghost use mathlib.Core.Path.{_≡_};
 ghost use Prim.Native.Nat.{_+_, _*_, _<_, _≤_};
 ghost use Rattle.demand.specs.Limits.{ticksMost};
 ghost use Rattle.demand.specs.Refusals.{outside};
-ghost use Rattle.scheduler.specs.Bounds.{miscounts, outsideAt, tooFar, tooMuch, tooMuchBehind, passed, missed, names, outOfBounds};
+ghost use Rattle.scheduler.specs.Bounds.{miscounts, outsideAt, tooFar, tooMuch, tooMuchBehind, names, outOfBounds};
 ghost use Rattle.scheduler.specs.Runs.{runOf, rowOn, Fitting};
 ghost use Rattle.scheduler.specs.Scans.{at, any};
 ghost use Rattle.scheduler.specs.Tick.{isTask, lateRow};
 use crate::Late;
 use crate::Run;
+use crate::deadlines;
 use crate::places;
 use crate::rows;
 use crate::tick;
@@ -28,7 +29,7 @@ fn outside(x: u64) -> bool
 }
 
 // Has some row a figure out of its range?
-fn figures_outside<'a>(tasks: &'a [u32; 128], handlers: &'a [u32; 32], n: usize, m: usize) -> bool
+fn figures_outside<'a>(tasks: &'a [u32; 192], handlers: &'a [u32; 32], n: usize, m: usize) -> bool
     requires { ⌜ Fitting n m ⌝ }
     ensures { λ r. ⌜ r ≡ any (outsideAt (rowOn (now (tasks .entry)) (now (handlers .entry)) n)) (n + m) ⌝ }
 {
@@ -44,7 +45,7 @@ fn figures_outside<'a>(tasks: &'a [u32; 128], handlers: &'a [u32; 32], n: usize,
 
 // Is a next arrival above clock + period?
 fn next_too_far<'a>(
-    tasks: &'a [u32; 128],
+    tasks: &'a [u32; 192],
     handlers: &'a [u32; 32],
     next: &'a [u64; 80],
     n: usize,
@@ -66,7 +67,7 @@ fn next_too_far<'a>(
 
 // Is a task owed more than its cost?
 fn task_too_much<'a>(
-    tasks: &'a [u32; 128],
+    tasks: &'a [u32; 192],
     handlers: &'a [u32; 32],
     owed: &'a [u64; 80],
     n: usize,
@@ -87,7 +88,7 @@ fn task_too_much<'a>(
 
 // Is a handler owed more than clock times its cost?
 fn handler_too_much<'a>(
-    tasks: &'a [u32; 128],
+    tasks: &'a [u32; 192],
     handlers: &'a [u32; 32],
     owed: &'a [u64; 80],
     n: usize,
@@ -108,33 +109,6 @@ fn handler_too_much<'a>(
     bad
 }
 
-fn passed(over: bool, clock: u64, due: u64) -> bool
-    ensures { λ r. ⌜ r ≡ passed over clock due ⌝ }
-{
-    if over { due < clock } else { due <= clock }
-}
-
-// Has a task that is owed work a deadline that has passed?
-fn deadline_missed<'a>(
-    due: &'a [u64; 80],
-    owed: &'a [u64; 80],
-    n: usize,
-    clock: u64,
-    over: bool,
-) -> bool
-    requires { ⌜ n ≤ 64 ⌝ }
-    ensures { λ r. ⌜ r ≡ any (missed over clock (at (now (due .entry))) (now (owed .entry))) n ⌝ }
-{
-    let mut bad = false;
-    let mut k = 0;
-    while k < n {
-        let past = passed(over, clock, due[k]);
-        bad = bad | ((0 < owed[k]) & past);
-        k += 1;
-    }
-    bad
-}
-
 fn names(late: Late, first: Late) -> bool
     ensures { λ r. ⌜ r ≡ names late first ⌝ }
 {
@@ -149,7 +123,7 @@ fn names(late: Late, first: Late) -> bool
 
 // Over, is its late row not the first late task; not over, does it name a late row?
 fn late_out<'a>(
-    due: &'a [u64; 80],
+    due: &'a [u64; 64],
     owed: &'a [u64; 80],
     n: usize,
     clock: u64,
@@ -169,7 +143,7 @@ fn late_out<'a>(
 
 // The clauses that ask of each row, once the table and the clock are in range.
 fn rows_out<'a>(
-    tasks: &'a [u32; 128],
+    tasks: &'a [u32; 192],
     handlers: &'a [u32; 32],
     next: &'a [u64; 80],
     owed: &'a [u64; 80],
@@ -186,11 +160,12 @@ fn rows_out<'a>(
     a | b | c
 }
 
-// Is the run of these fields out of bounds? A task's deadline is its next arrival.
+// Is the run of these fields out of bounds?
 pub fn out_of_bounds<'a>(
-    tasks: &'a [u32; 128],
+    tasks: &'a [u32; 192],
     handlers: &'a [u32; 32],
     next: &'a [u64; 80],
+    due: &'a [u64; 64],
     owed: &'a [u64; 80],
     n: usize,
     m: usize,
@@ -198,7 +173,7 @@ pub fn out_of_bounds<'a>(
     over: bool,
     late: Late,
 ) -> bool
-    ensures { λ r. ⌜ r ≡ outOfBounds (runOf (now (tasks .entry)) (now (handlers .entry)) n m clock (now (next .entry)) (now (owed .entry)) over late) ⌝ }
+    ensures { λ r. ⌜ r ≡ outOfBounds (runOf (now (tasks .entry)) (now (handlers .entry)) n m clock (now (next .entry)) (now (due .entry)) (now (owed .entry)) over late) ⌝ }
 {
     if miscounts(n, m) {
         return true;
@@ -206,14 +181,17 @@ pub fn out_of_bounds<'a>(
     if figures_outside(tasks, handlers, n, m) {
         return true;
     }
-    if places::places_used(tasks, handlers, next, owed, n, m) {
+    if deadlines::deadlines_outside(tasks, handlers, n, m) {
+        return true;
+    }
+    if places::places_used(tasks, handlers, next, due, owed, n, m) {
         return true;
     }
     if Run::TICKS_MOST < clock {
         return true;
     }
     let rows = rows_out(tasks, handlers, next, owed, n, m, clock);
-    let missed = deadline_missed(next, owed, n, clock, over);
-    let late = late_out(next, owed, n, clock, over, late);
-    rows | missed | late
+    let deadlines = deadlines::deadlines_out(tasks, handlers, next, due, owed, n, m, clock, over);
+    let late = late_out(due, owed, n, clock, over, late);
+    rows | deadlines | late
 }

@@ -2,6 +2,7 @@
 mod arrivals;
 mod begin;
 mod bounds;
+mod deadlines;
 mod places;
 mod refusal;
 mod rows;
@@ -11,14 +12,15 @@ ghost use mathlib.Core.Path.{_≡_};
 ghost use Rattle.scheduler.specs.Start.{freshOf};
 ghost use Rattle.scheduler.specs.Steps.{stepOf};
 
-// A run: its table, the clock, for each row the next legal arrival and the work owed (handlers behind tasks), whether it is over, and who was late.
+// A run: its table, the clock, for each row the next legal arrival and the work owed (handlers behind tasks), for each task the tick by which its last job must be done, whether it is over, and who was late.
 pub struct Run {
-    pub tasks: [u32; 128],
+    pub tasks: [u32; 192],
     pub handlers: [u32; 32],
     pub task_count: usize,
     pub handler_count: usize,
     pub clock: u64,
     pub next: [u64; 80],
+    pub due: [u64; 64],
     pub owed: [u64; 80],
     pub over: bool,
     pub late: Late,
@@ -68,7 +70,7 @@ impl Run {
 
     pub const TICKS_MOST: u64 = 1_000_000_000;
 
-    // A fresh run of a table: clock 0, all arrivals and work 0, not over.
+    // A fresh run of a table: clock 0, all arrivals, deadlines and work 0, not over.
     pub fn fresh(tasks: &[u32], handlers: &[u32]) -> Fresh
         ensures { λ r. ⌜ r ≡ freshOf (now (tasks .entry)) (now (handlers .entry)) ⌝ }
     {
@@ -95,6 +97,7 @@ impl Run {
             &self.tasks,
             &self.handlers,
             &self.next,
+            &self.due,
             &self.owed,
             self.task_count,
             self.handler_count,

@@ -35,19 +35,21 @@ fn used_ticks(s: &[u64], from: usize) -> bool
 
 // Is a place past the last row not 0?
 pub fn places_used<'a>(
-    tasks: &'a [u32; 128],
+    tasks: &'a [u32; 192],
     handlers: &'a [u32; 32],
     next: &'a [u64; 80],
+    due: &'a [u64; 64],
     owed: &'a [u64; 80],
     n: usize,
     m: usize,
 ) -> bool
     requires { ⌜ Fitting n m ⌝ }
-    ensures { λ r. ⌜ r ≡ (used (drop (2 * n) (now (tasks .entry))) || used (drop (2 * m) (now (handlers .entry))) || used (drop (n + m) (now (next .entry))) || used (drop (n + m) (now (owed .entry)))) ⌝ }
+    ensures { λ r. ⌜ r ≡ (used (drop (3 * n) (now (tasks .entry))) || used (drop (2 * m) (now (handlers .entry))) || used (drop (n + m) (now (next .entry))) || used (drop n (now (due .entry))) || used (drop (n + m) (now (owed .entry)))) ⌝ }
 {
-    let t = used_numbers(tasks, 2 * n);
+    let t = used_numbers(tasks, 3 * n);
     let h = used_numbers(handlers, 2 * m);
     let x = used_ticks(next, n + m);
+    let d = used_ticks(due, n);
     let o = used_ticks(owed, n + m);
-    t | h | x | o
+    t | h | x | d | o
 }

@@ -9,9 +9,10 @@ use crate::bounds;
 
 // The refusal of a step of the run of these fields.
 pub fn of_step<'a>(
-    tasks: &'a [u32; 128],
+    tasks: &'a [u32; 192],
     handlers: &'a [u32; 32],
     next: &'a [u64; 80],
+    due: &'a [u64; 64],
     owed: &'a [u64; 80],
     n: usize,
     m: usize,
@@ -20,9 +21,9 @@ pub fn of_step<'a>(
     late: Late,
     arrivals: &[u32],
 ) -> u32
-    ensures { λ r. ⌜ r ≡ stepRefusal (runOf (now (tasks .entry)) (now (handlers .entry)) n m clock (now (next .entry)) (now (owed .entry)) over late) (now (arrivals .entry)) ⌝ }
+    ensures { λ r. ⌜ r ≡ stepRefusal (runOf (now (tasks .entry)) (now (handlers .entry)) n m clock (now (next .entry)) (now (due .entry)) (now (owed .entry)) over late) (now (arrivals .entry)) ⌝ }
 {
-    if bounds::out_of_bounds(tasks, handlers, next, owed, n, m, clock, over, late) {
+    if bounds::out_of_bounds(tasks, handlers, next, due, owed, n, m, clock, over, late) {
         return 6;
     }
     if over {

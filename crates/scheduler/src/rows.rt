@@ -1,25 +1,26 @@
-// What stands at a place: a row of the table, and the deadline of a task's last job.
+// What stands at a place: a row of the table.
 ghost use mathlib.Core.Path.{_≡_};
 ghost use Prim.Native.Nat.{_+_, _*_, _<_, _≤_};
 ghost use lib.ListN.{length};
-ghost use Rattle.demand.specs.Rows.{rowsOf, rowAt};
+ghost use Rattle.demand.specs.Rows.{rowsOf, width, rowAt};
 ghost use Rattle.demand.specs.Walk.{rowOf};
 ghost use Rattle.scheduler.specs.Runs.{rowOn, Fitting};
 use demand::readable;
+use demand::readable::Kind;
 use demand::readable::Row;
 
-// The row at place i of a flat list: the only place in the code that knows how many numbers a row has.
-fn row_of(s: &[u32], i: usize) -> Row
-    requires { ⌜ (i < 64) × (2 * i + 2 ≤ length (now s)) ⌝ }
-    ensures { λ r. ⌜ rowOf r ≡ rowAt (rowsOf (now (s .entry))) i ⌝ }
+// The row at place i of a flat list.
+fn row_of(kind: Kind, s: &[u32], i: usize) -> Row
+    requires { ⌜ (i < 64) × (width kind * i + width kind ≤ length (now s)) ⌝ }
+    ensures { λ r. ⌜ rowOf r ≡ rowAt (rowsOf kind (now (s .entry))) i ⌝ }
 {
-    let at = 2 * i;
-    readable::head(&s[at..])
+    let at = readable::width(kind) * i;
+    readable::head(kind, &s[at..])
 }
 
 // The row at place k, of n tasks and m handlers behind them.
 pub fn row_at<'a>(
-    tasks: &'a [u32; 128],
+    tasks: &'a [u32; 192],
     handlers: &'a [u32; 32],
     n: usize,
     m: usize,
@@ -29,8 +30,8 @@ pub fn row_at<'a>(
     ensures { λ r. ⌜ rowOf r ≡ rowOn (now (tasks .entry)) (now (handlers .entry)) n k ⌝ }
 {
     if k < n {
-        row_of(tasks, k)
+        row_of(Kind::Task, tasks, k)
     } else {
-        row_of(handlers, k - n)
+        row_of(Kind::Handler, handlers, k - n)
     }
 }

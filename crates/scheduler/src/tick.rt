@@ -36,7 +36,7 @@ fn better(best: Best, k: usize, owed: u64, key: u64) -> Best
 }
 
 // Of the first n tasks, the one with the smallest key among those owed work, lowest row on a tie.
-fn earliest<'a>(keys: &'a [u64; 80], owed: &'a [u64; 80], n: usize) -> Best
+fn earliest<'a>(keys: &'a [u64; 64], owed: &'a [u64; 80], n: usize) -> Best
     requires { ⌜ n ≤ 64 ⌝ }
     ensures { λ r. ⌜ r ≡ earliest (at (now (keys .entry))) (now (owed .entry)) n ⌝ }
 {
@@ -56,7 +56,7 @@ fn earliest<'a>(keys: &'a [u64; 80], owed: &'a [u64; 80], n: usize) -> Best
 }
 
 // To the first handler row that is owed work, else to a task, else to nobody.
-fn goes_to<'a>(keys: &'a [u64; 80], owed: &'a [u64; 80], n: usize, m: usize) -> Ran
+fn goes_to<'a>(keys: &'a [u64; 64], owed: &'a [u64; 80], n: usize, m: usize) -> Ran
     requires { ⌜ (n ≤ 64) × (m ≤ 16) ⌝ }
     ensures { λ r. ⌜ r ≡ goesTo (at (now (keys .entry))) (now (owed .entry)) n m ⌝ }
 {
@@ -96,7 +96,7 @@ fn pay(owed: &mut [u64; 80], n: usize, ran: Ran)
 }
 
 // The first of n tasks that is owed work at its deadline.
-pub fn late_row<'a>(due: &'a [u64; 80], owed: &'a [u64; 80], n: usize, clock: u64) -> Late
+pub fn late_row<'a>(due: &'a [u64; 64], owed: &'a [u64; 80], n: usize, clock: u64) -> Late
     requires { ⌜ n ≤ 64 ⌝ }
     ensures { λ r. ⌜ r ≡ lateRow clock (at (now (due .entry))) (now (owed .entry)) n ⌝ }
 {
@@ -121,9 +121,17 @@ pub fn is_task(late: Late) -> bool
 }
 
 // The run one tick on, and the answer.
-fn closed(run: Run, next: [u64; 80], owed: [u64; 80], ran: Ran, over: bool, late: Late) -> Stepped
+fn closed(
+    run: Run,
+    next: [u64; 80],
+    due: [u64; 64],
+    owed: [u64; 80],
+    ran: Ran,
+    over: bool,
+    late: Late,
+) -> Stepped
     requires { ⌜ run .clock < ticksMost ⌝ }
-    ensures { λ r. ⌜ r ≡ closed run next owed ran over late ⌝ }
+    ensures { λ r. ⌜ r ≡ closed run next due owed ran over late ⌝ }
 {
     let tasks = run.tasks;
     let handlers = run.handlers;
@@ -134,6 +142,7 @@ fn closed(run: Run, next: [u64; 80], owed: [u64; 80], ran: Ran, over: bool, late
         handler_count: run.handler_count,
         clock: run.clock + 1,
         next,
+        due,
         owed,
         over,
         late,
@@ -144,7 +153,7 @@ fn closed(run: Run, next: [u64; 80], owed: [u64; 80], ran: Ran, over: bool, late
     }
 }
 
-// An accepted step: arrivals, the tick, the clock, the late test. A task's deadline is its next arrival.
+// An accepted step: arrivals, the tick, the clock, the late test.
 pub fn ticked(run: Run, arrivals: &[u32]) -> Stepped
     requires { ⌜ stepRefusal run (now arrivals) ≡ 0 ⌝ }
     ensures { λ r. ⌜ r ≡ tickedBy dueOf run (now (arrivals .entry)) ⌝ }
@@ -153,11 +162,13 @@ pub fn ticked(run: Run, arrivals: &[u32]) -> Stepped
     let m = run.handler_count;
     let clock = run.clock;
     let mut next = run.next;
+    let mut due = run.due;
     let mut owed = run.owed;
     arrivals::move_next(&mut next, &run.tasks, &run.handlers, n, m, clock, arrivals);
+    arrivals::move_due(&mut due, &run.tasks, &run.handlers, n, m, clock, arrivals);
     arrivals::add_work(&mut owed, arrivals);
-    let ran = goes_to(&next, &owed, n, m);
+    let ran = goes_to(&due, &owed, n, m);
     pay(&mut owed, n, ran);
-    let late = late_row(&next, &owed, n, clock + 1);
-    closed(run, next, owed, ran, is_task(late), late)
+    let late = late_row(&due, &owed, n, clock + 1);
+    closed(run, next, due, owed, ran, is_task(late), late)
 }

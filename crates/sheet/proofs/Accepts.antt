@@ -1,29 +1,30 @@
 -- The reader accepts exactly the texts of the layout, and reads what they say.
-use mathlib.Core.Bool.{Bool}
-use mathlib.Core.List.{List, [], _∷_, _++_, append-nil, append-assoc}
+use mathlib.Core.Bool.{Bool, true, false}
+use mathlib.Core.List.{List, [], _∷_, _++_}
 use mathlib.Core.Logic.{_⊎_, inl, inr}
 use mathlib.Core.Path.{_≡_, refl, sym, ap, subst, _∙_}
-use native.Mathlib.Nat.{pow-suc}
 use native.Mathlib.Omega.{arith}
-use Prim.Native.Nat.{ℕ, zero, suc, _+_, _-_, _*_, _/_, _%_, _^_, _<_, _≤_}
-use borrow.Author.Tests.{ltb-false, le-ltb, ne-eqb}
+use Prim.Native.Nat.{ℕ, _+_, _-_, _*_, _≤_}
+use borrow.Author.Tests.{ltb-false, le-ltb}
 use lib.Dec.{ltb}
-use lib.ListN.{length}
-use lib.Seq.{take-all}
+use lib.ListN.{length, take, length-append}
+use lib.Seq.{take-append-seam}
 use Rattle.demand.specs.Tests.{pick}
 use Rattle.sheet.specs.Ascii.{crlf}
-use Rattle.sheet.specs.Building.{Outcome, none, some, Run, next, runFrom, run, ended, outcome}
-use Rattle.sheet.specs.Layout.{Entry, entry, header, nameOf, entryText, body, text, AllShort, FileSays, OneTable}
-use Rattle.sheet.specs.Numbers.{lastDigits, decimal, comma}
+use Rattle.sheet.specs.Building.{Outcome, none, some, Run, runFrom, run, ended, outcome}
+use Rattle.sheet.specs.Layout.{Entry, text, AllLawful, FileSays, OneTable}
+use Rattle.sheet.specs.Steps.{isStart, columnsOf}
 use Rattle.sheet.specs.Table.{tableOf, ReadSays, OneReading}
-use Rattle.sheet.specs.declared.layout.Kind.{Kind}
-use Rattle.sheet.specs.declared.layout.Kind.the-variants.{Task, Handler}
+use Rattle.sheet.specs.declared.layout.Columns.{Columns}
+use Rattle.sheet.specs.declared.layout.Columns.the-variants.{Three, Four}
 use Rattle.sheet.specs.declared.layout.State.{State}
-use Rattle.sheet.specs.declared.layout.State.the-variants.{Broken, Head, HeadCr, Start, Name, CostFirst, Cost, PeriodFirst, Period, RowCr}
+use Rattle.sheet.specs.declared.layout.State.the-variants.{Broken, Head, HeadCr, Start, Name, CostFirst, Cost, PeriodFirst, Period, DeadlineFirst, Deadline, RowCr}
 use Rattle.sheet.specs.declared.reader.Table.{Table}
-use Rattle.sheet.proofs.Builds.{tableFor}
-use Rattle.sheet.proofs.Digits.{by, by-lt, few, many, digit-is, continues-is}
-use Rattle.sheet.proofs.Standing.{Holds, holds, short-next, text-next}
+use Rattle.sheet.proofs.Builds.{tableFor, run-append}
+use Rattle.sheet.proofs.Digits.{by}
+use Rattle.sheet.proofs.Room.{text-least}
+use Rattle.sheet.proofs.Standing.{Holds, holds}
+use Rattle.sheet.proofs.Texts.{at, run-text}
 
 -- ---- what is accepted is a text
 
@@ -33,147 +34,101 @@ never P fs e =
     let f : ⊥ = omega arith in
     absurd f
 
-abbrev Ends : List ℕ → List Entry → Type 0
-Ends l fs = AllShort fs × ((l ≡ text fs) ⊎ (l ≡ text fs ++ crlf))
+clash : (P : Type 0) → false ≡ true → P
+clash P e =
+    let z : _≡_ {A = ℕ} 0 1 = cc in
+    let f : ⊥ = omega arith in
+    absurd f
 
-module _ (es : List Entry) (l : List ℕ) (fs : List Entry) where
-  ends-head : (k : ℕ) → Holds (Head k) es l → 16 ≤ k → some es ≡ some fs → Ends l fs
-  unfolding Holds
-  ends-head k h m e =
-      let q : [] ≡ fs = cc in
-      (subst AllShort q tt, inl (sym (h .2) ∙ take-all k header m ∙ ap text q))
+-- At the start of a line all that was read is rows and line ends.
+holds-start : (cols : Columns) (st : State) (es : List Entry) (l : List ℕ) → isStart st ≡ true → Holds cols st es l → AllLawful cols es × (text cols es ++ crlf ≡ l)
+unfolding Holds
+holds-start cols Start es l t h = h
+holds-start cols Broken es l t h = clash _ t
+holds-start cols (Head k) es l t h = clash _ t
+holds-start cols HeadCr es l t h = clash _ t
+holds-start cols (Name kind k) es l t h = clash _ t
+holds-start cols (CostFirst kind) es l t h = clash _ t
+holds-start cols (Cost kind v) es l t h = clash _ t
+holds-start cols (PeriodFirst kind c) es l t h = clash _ t
+holds-start cols (Period kind c v) es l t h = clash _ t
+holds-start cols (DeadlineFirst kind c p) es l t h = clash _ t
+holds-start cols (Deadline kind c p v) es l t h = clash _ t
+holds-start cols (RowCr kind c p last) es l t h = clash _ t
 
-  ends-start : Holds Start es l → some es ≡ some fs → Ends l fs
-  unfolding Holds
-  ends-start h e =
-      let q : es ≡ fs = cc in
-      (subst AllShort q (h .0), inr (sym (h .1) ∙ ap (λ (x : List Entry). text x ++ crlf) q))
+-- Equal ends come off.
+without-end : (xs ys zs : List ℕ) → xs ++ zs ≡ ys ++ zs → xs ≡ ys
+without-end xs ys zs e =
+    let same : length xs ≡ length ys = omega (arith, ap length e, length-append xs zs, length-append ys zs) in
+    sym (take-append-seam xs zs) ∙ ap (take (length xs)) e ∙ ap (λ (n : ℕ). take n (ys ++ zs)) same ∙ take-append-seam ys zs
 
-  ends-period : (kind : Kind) (c v : ℕ) → Holds (Period kind c v) es l → some (es ++ (entry kind c v ∷ [])) ≡ some fs → Ends l fs
-  unfolding Holds
-  ends-period kind c v h e =
-      let q : es ++ (entry kind c v ∷ []) ≡ fs = cc in
-      (subst AllShort q (short-next es (entry kind c v) (h .0) (h .1, h .2)), inl (sym (h .3) ∙ sym (text-next es (entry kind c v)) ∙ ap text q))
+abbrev Ends : Columns → List ℕ → List Entry → Type 0
+Ends cols l fs = AllLawful cols fs × ((l ≡ text cols fs) ⊎ (l ≡ text cols fs ++ crlf))
 
-  ends : (st : State) → Holds st es l → ended st es ≡ some fs → Ends l fs
-  ends Broken h e = never _ fs e
-  ends (Head k) h e =
-      by (λ t. ltb k 16 ≡ t → pick t none (some es) ≡ some fs → Ends l fs) (ltb k 16)
+module _ (cols : Columns) (bs : List ℕ) (fs : List Entry) where
+  -- The last line lacked its CRLF.
+  ends-short : isStart (runFrom cols (run cols bs) crlf .st) ≡ true → some (runFrom cols (run cols bs) crlf .rows) ≡ some fs → Ends cols bs fs
+  ends-short t e =
+      let w = runFrom cols (run cols bs) crlf in
+      let q : w .rows ≡ fs = cc in
+      let whole : Holds cols (w .st) (w .rows) (bs ++ crlf) =
+      subst (λ (x : Run). Holds cols (x .st) (x .rows) (bs ++ crlf)) (run-append cols (record { st = Head 0; rows = [] }) bs crlf) (holds cols (bs ++ crlf)) in
+      let h = holds-start cols (w .st) (w .rows) (bs ++ crlf) t whole in
+      (subst (AllLawful cols) q (h .0), inl (sym (without-end (text cols (w .rows)) bs crlf (h .1)) ∙ ap (text cols) q))
+
+  ends-full : isStart (run cols bs .st) ≡ true → some (run cols bs .rows) ≡ some fs → Ends cols bs fs
+  ends-full t e =
+      let w = run cols bs in
+      let q : w .rows ≡ fs = cc in
+      let h = holds-start cols (w .st) (w .rows) bs t (holds cols bs) in
+      (subst (AllLawful cols) q (h .0), inr (sym (h .1) ∙ ap (λ (x : List Entry). text cols x ++ crlf) q))
+
+  ends : ended cols (run cols bs) ≡ some fs → Ends cols bs fs
+  ends e =
+      by (λ t. isStart (runFrom cols (run cols bs) crlf .st) ≡ t → pick t (some (runFrom cols (run cols bs) crlf .rows)) (pick (isStart (run cols bs .st)) (some (run cols bs .rows)) none) ≡ some fs → Ends cols bs fs)
+      (isStart (runFrom cols (run cols bs) crlf .st))
+      (λ _. λ t. λ x. ends-short t x)
+      (λ _. λ _. λ y.
+      by (λ t. isStart (run cols bs .st) ≡ t → pick t (some (run cols bs .rows)) none ≡ some fs → Ends cols bs fs) (isStart (run cols bs .st))
+      (λ _. λ t. λ x. ends-full t x)
       (λ _. λ t. λ x. never _ fs x)
-      (λ _. λ t. λ x. ends-head k h (ltb-false _ _ t) x)
+      refl y)
       refl e
-  ends HeadCr h e = never _ fs e
-  ends Start h e = ends-start h e
-  ends (Name kind k) h e = never _ fs e
-  ends (CostFirst kind) h e = never _ fs e
-  ends (Cost kind v) h e = never _ fs e
-  ends (PeriodFirst kind c) h e = never _ fs e
-  ends (Period kind c v) h e = ends-period kind c v h e
-  ends (RowCr kind c v) h e = never _ fs e
 
 sound : (bs : List ℕ) (fs : List Entry) → outcome bs ≡ some fs → FileSays bs fs
 sound bs fs e =
-    by (λ t. ltb 4096 (length bs) ≡ t → pick t none (ended (run bs .st) (run bs .rows)) ≡ some fs → FileSays bs fs) (ltb 4096 (length bs))
+    let cols = columnsOf bs in
+    by (λ t. ltb 4096 (length bs) ≡ t → pick t none (ended cols (run cols bs)) ≡ some fs → FileSays bs fs) (ltb 4096 (length bs))
     (λ _. λ t. λ x. never _ fs x)
     (λ _. λ t. λ x.
-    let w : Ends bs fs = ends (run bs .rows) bs fs (run bs .st) (holds bs) x in
-    record { small = ltb-false _ _ t; short = w .0; written = w .1 })
+    let w : Ends cols bs fs = ends cols bs fs x in
+    record { cols = cols; small = ltb-false _ _ t; lawful = w .0; written = w .1 })
     refl e
 
 -- ---- a text is accepted
 
-abbrev at : State → List Entry → Run
-at s fs = record { st = s; rows = fs }
+accepted : (cols : Columns) (bs : List ℕ) (es : List Entry) → AllLawful cols es → (bs ≡ text cols es) ⊎ (bs ≡ text cols es ++ crlf) → ended cols (run cols bs) ≡ some es
+accepted cols bs es s (inl e) =
+    ap (λ (x : List ℕ). ended cols (run cols x)) e
+    ∙ ap (λ (w : Run). pick (isStart (w .st)) (some (w .rows)) (pick (isStart (run cols (text cols es) .st)) (some (run cols (text cols es) .rows)) none)) (run-text cols es s)
+accepted cols bs es s (inr e) =
+    ap (λ (x : List ℕ). ended cols (run cols x)) e
+    ∙ ap (ended cols) (run-append cols (at (Head 0) []) (text cols es) crlf ∙ run-text cols es s)
 
-run-append : (w : Run) (xs ys : List ℕ) → runFrom w (xs ++ ys) ≡ runFrom (runFrom w xs) ys
-run-append w [] ys = refl
-run-append w (x ∷ xs) ys = run-append (next w x) xs ys
-
-run-name : (kind : Kind) (fs : List Entry) (xs : List ℕ) → runFrom (at Start fs) (nameOf kind ++ (comma ∷ xs)) ≡ runFrom (at (CostFirst kind) fs) xs
-run-name Task fs xs = simp append-nil
-run-name Handler fs xs = simp append-nil
-
--- A number from its first digit on, in a field: f before it, and g n when n was read.
-module _ (f : State) (g : ℕ → State) (fs : List Entry)
-    (first : (d : ℕ) → d < 10 → next (at f fs) (48 + d) ≡ at (g d) fs)
-    (then : (v d : ℕ) → 0 < v → v < 1000000 → d < 10 → next (at (g v) fs) (48 + d) ≡ at (g (v * 10 + d)) fs) where
-  run-digits : (k n : ℕ) → n < 10 ^ suc k → n < 10000000 → runFrom (at f fs) (lastDigits (suc k) n) ≡ at (g n) fs
-  run-digits zero n h m = ap (runFrom (at f fs)) (few zero n h) ∙ first n h
-  run-digits (suc k) n h m =
-      by-lt (runFrom (at f fs) (lastDigits (suc (suc k)) n) ≡ at (g n) fs) n 10
-      (λ l. ap (runFrom (at f fs)) (few (suc k) n l) ∙ first n l)
-      (λ l.
-      let q : n < 10 ^ suc k * 10 = rw pow-suc at h in
-      ap (runFrom (at f fs)) (many (suc k) n l)
-      ∙ run-append (at f fs) (lastDigits (suc k) (n / 10)) ((48 + n % 10) ∷ [])
-      ∙ ap (λ (w : Run). next w (48 + n % 10)) (run-digits k (n / 10) (omega arith) (omega arith))
-      ∙ then (n / 10) (n % 10) (omega arith) (omega arith) (omega arith)
-      ∙ ap (λ (x : ℕ). at (g x) fs) (omega arith))
-
-  run-decimal : (n : ℕ) → n < 10000000 → runFrom (at f fs) (decimal n) ≡ at (g n) fs
-  unfolding decimal
-  run-decimal n h = run-digits 19 n (omega arith) h
-
-cost-first : (kind : Kind) (fs : List Entry) (d : ℕ) → d < 10 → next (at (CostFirst kind) fs) (48 + d) ≡ at (Cost kind d) fs
-cost-first kind fs d h =
-    let e : 48 + d - 48 ≡ d = omega arith in
-    simp (append-nil, digit-is (48 + d) (omega arith) (omega arith), e)
-
-cost-then : (kind : Kind) (fs : List Entry) (v d : ℕ) → 0 < v → v < 1000000 → d < 10 → next (at (Cost kind v) fs) (48 + d) ≡ at (Cost kind (v * 10 + d)) fs
-cost-then kind fs v d p q h =
-    let e : 48 + d - 48 ≡ d = omega arith in
-    simp (append-nil, ne-eqb (48 + d) comma (λ x. omega arith), continues-is v (48 + d) (digit-is (48 + d) (omega arith) (omega arith)) p q, e)
-
-period-first : (kind : Kind) (c : ℕ) (fs : List Entry) (d : ℕ) → d < 10 → next (at (PeriodFirst kind c) fs) (48 + d) ≡ at (Period kind c d) fs
-period-first kind c fs d h =
-    let e : 48 + d - 48 ≡ d = omega arith in
-    simp (append-nil, digit-is (48 + d) (omega arith) (omega arith), e)
-
-period-then : (kind : Kind) (c : ℕ) (fs : List Entry) (v d : ℕ) → 0 < v → v < 1000000 → d < 10 → next (at (Period kind c v) fs) (48 + d) ≡ at (Period kind c (v * 10 + d)) fs
-period-then kind c fs v d p q h =
-    let e : 48 + d - 48 ≡ d = omega arith in
-    simp (append-nil, ne-eqb (48 + d) 13 (λ x. omega arith), continues-is v (48 + d) (digit-is (48 + d) (omega arith) (omega arith)) p q, e)
-
-run-entry : (kind : Kind) (c p : ℕ) (fs : List Entry) (xs : List ℕ) → c < 10000000 → p < 10000000 → runFrom (at Start fs) (entryText (entry kind c p) ++ xs) ≡ runFrom (at (Period kind c p) fs) xs
-run-entry kind c p fs xs hc hp =
-    run-append (at Start fs) (entryText (entry kind c p)) xs
-    ∙ ap (λ (w : Run). runFrom w xs)
-    (run-name kind fs (decimal c ++ (comma ∷ decimal p))
-    ∙ run-append (at (CostFirst kind) fs) (decimal c) (comma ∷ decimal p)
-    ∙ ap (λ (w : Run). runFrom w (comma ∷ decimal p)) (run-decimal (CostFirst kind) (Cost kind) fs (cost-first kind fs) (cost-then kind fs) c hc)
-    ∙ ap (λ (z : List Entry). runFrom (at (PeriodFirst kind c) z) (decimal p)) (append-nil fs)
-    ∙ run-decimal (PeriodFirst kind c) (Period kind c) fs (period-first kind c fs) (period-then kind c fs) p hp)
-
--- A state at which a line may end, where fs was read.
-abbrev LineEnd : Run → List Entry → Type 0
-LineEnd w fs = (runFrom w crlf ≡ at Start fs) × (ended (w .st) (w .rows) ≡ some fs)
-
-run-body : (es fs : List Entry) (w : Run) → AllShort es → LineEnd w fs → LineEnd (runFrom w (body es)) (fs ++ es)
-run-body [] fs w s h = rw append-nil h
-run-body (entry kind c p ∷ es) fs w s h =
-    let e : runFrom w (body (entry kind c p ∷ es)) ≡ runFrom (at (Period kind c p) fs) (body es) =
-    run-append w crlf (entryText (entry kind c p) ++ body es)
-    ∙ ap (λ (x : Run). runFrom x (entryText (entry kind c p) ++ body es)) (h .0)
-    ∙ run-entry kind c p fs (body es) (s .0 .0) (s .0 .1) in
-    let here : LineEnd (at (Period kind c p) fs) (fs ++ (entry kind c p ∷ [])) =
-    (ap (λ (z : List Entry). at Start (z ++ (entry kind c p ∷ []))) (append-nil fs), refl) in
-    let rest : LineEnd (runFrom (at (Period kind c p) fs) (body es)) (fs ++ (entry kind c p ∷ es)) =
-    subst (λ (z : List Entry). LineEnd (runFrom (at (Period kind c p) fs) (body es)) z) (append-assoc fs (entry kind c p ∷ []) es)
-    (run-body es (fs ++ (entry kind c p ∷ [])) (at (Period kind c p) fs) (s .1) here) in
-    subst (λ (x : Run). LineEnd x (fs ++ (entry kind c p ∷ es))) (sym e) rest
-
-run-text : (es : List Entry) → AllShort es → LineEnd (run (text es)) es
-run-text es s = run-body es [] (at (Head 16) []) s (refl, refl)
-
-accepted : (bs : List ℕ) (es : List Entry) → AllShort es → (bs ≡ text es) ⊎ (bs ≡ text es ++ crlf) → ended (run bs .st) (run bs .rows) ≡ some es
-accepted bs es s (inl e) = ap (λ (x : List ℕ). ended (run x .st) (run x .rows)) e ∙ run-text es s .1
-accepted bs es s (inr e) =
-    ap (λ (x : List ℕ). ended (run x .st) (run x .rows)) e
-    ∙ ap (λ (w : Run). ended (w .st) (w .rows)) (run-append (at (Head 0) []) (text es) crlf ∙ run-text es s .0)
+-- The 17th byte of a text tells its columns.
+told : (cols : Columns) (bs : List ℕ) (es : List Entry) → (bs ≡ text cols es) ⊎ (bs ≡ text cols es ++ crlf) → columnsOf bs ≡ cols
+told Three bs [] (inl e) = ap columnsOf e
+told Three bs (x ∷ es) (inl e) = ap columnsOf e
+told Three bs [] (inr e) = ap columnsOf e
+told Three bs (x ∷ es) (inr e) = ap columnsOf e
+told Four bs es (inl e) = ap columnsOf e
+told Four bs es (inr e) = ap columnsOf e
 
 complete : (bs : List ℕ) (es : List Entry) → FileSays bs es → outcome bs ≡ some es
 complete bs es s =
-    ap (λ (t : Bool). pick t none (ended (run bs .st) (run bs .rows))) (le-ltb 4096 (length bs) (s .small)) ∙ accepted bs es (s .short) (s .written)
+    ap (λ (t : Bool). pick t none (ended (columnsOf bs) (run (columnsOf bs) bs))) (le-ltb 4096 (length bs) (s .small))
+    ∙ ap (λ (x : Columns). ended x (run x bs)) (told (s .cols) bs es (s .written))
+    ∙ accepted (s .cols) bs es (s .lawful) (s .written)
 
 -- ---- so the table built is the answer
 
@@ -197,3 +152,12 @@ read-unique bs t u (inl a) (inl b) = a .2 ∙ ap tableOf (says-unique bs (a .0) 
 read-unique bs t u (inl a) (inr b) = absurd (b .0 (a .0) (a .1))
 read-unique bs t u (inr a) (inl b) = absurd (a .0 (b .0) (b .1))
 read-unique bs t u (inr a) (inr b) = a .1 ∙ sym (b .1)
+
+-- ---- and a file says 408 rows at most
+
+written-least : (bs : List ℕ) (cols : Columns) (es : List Entry) → (bs ≡ text cols es) ⊎ (bs ≡ text cols es ++ crlf) → 16 + length es * 10 ≤ length bs
+written-least bs cols es (inl e) = omega (arith, ap length e, text-least cols es)
+written-least bs cols es (inr e) = omega (arith, ap length e, length-append (text cols es) crlf, text-least cols es)
+
+pub says-most : (bs : List ℕ) (es : List Entry) → FileSays bs es → length es ≤ 408
+says-most bs es s = omega (arith, written-least bs (s .cols) es (s .written), s .small)

@@ -1,136 +1,158 @@
 -- The table that the reader builds is that of the rows read whole.
-use mathlib.Core.Bool.{Bool, true}
+use mathlib.Core.Bool.{Bool, true, false, _||_}
 use mathlib.Core.List.{List, [], _∷_, _++_, append-nil, append-assoc}
-use mathlib.Core.Path.{_≡_, refl, sym, ap, _∙_}
+use mathlib.Core.Path.{_≡_, refl, sym, ap, subst, _∙_}
 use native.Mathlib.Numerals.{add-one}
 use native.Mathlib.Omega.{arith}
 use Prim.Native.Nat.{ℕ, suc, _+_, _-_, _<_, _≤_}
 use borrow.Author.Tests.{lt-ltb, le-ltb}
-use lib.Dec.{ltb, eqb}
 use lib.ListN.{length, set, take, getD, replicate, length-append, length-take}
 use lib.Seq.{set-at, take-suc, take-all}
 use Rattle.demand.specs.Tests.{pick}
-use Rattle.sheet.specs.Building.{Room, longer, pushed, fed, closed, added, Run, next, runFrom, run, Outcome, none, some, ended, outcome}
-use Rattle.sheet.specs.Layout.{Entry, entry}
-use Rattle.sheet.specs.Steps.{stepOf}
-use Rattle.sheet.specs.Table.{pairOf, numbersOf, flatOf, tableOf, brokenTable}
+use Rattle.sheet.specs.Ascii.{crlf}
+use Rattle.sheet.specs.Building.{Room, longer, longerBy, pushed, grown, fed, closed, added, Run, next, runFrom, run, Outcome, none, some, ended, outcome}
+use Rattle.sheet.specs.Layout.{Entry}
+use Rattle.sheet.specs.Steps.{stepOf, isStart, columnsOf}
+use Rattle.sheet.specs.Table.{rowOf, numbersOf, misplacedIn, misplaced, flatOf, tableOf, brokenTable}
+use Rattle.sheet.specs.declared.layout.Columns.{Columns}
 use Rattle.sheet.specs.declared.layout.Kind.{Kind}
 use Rattle.sheet.specs.declared.layout.Kind.the-variants.{Task, Handler}
 use Rattle.sheet.specs.declared.layout.State.{State}
-use Rattle.sheet.specs.declared.layout.State.the-variants.{Broken, Head, HeadCr, Start, Name, CostFirst, Cost, PeriodFirst, Period, RowCr}
+use Rattle.sheet.specs.declared.layout.State.the-variants.{Head}
+use Rattle.sheet.specs.declared.reader.Flat.{Flat}
 use Rattle.sheet.specs.declared.reader.Table.{Table}
 use Rattle.sheet.proofs.Digits.{by}
-use Rattle.sheet.proofs.Room.{numbers-both, run-most, room}
+use Rattle.sheet.proofs.Room.{numbers-most, run-most, room}
 
 -- ---- one row more
 
--- Two stores behind a list that has room.
-longer-flat : (s : List ℕ) (c p : ℕ) → length s + 2 ≤ 816 → longer (flatOf s) c p ≡ flatOf (s ++ (c ∷ (p ∷ [])))
-longer-flat s c p h =
+-- A store behind a list that has room.
+longer-flat : (s : List ℕ) (x : ℕ) → length s < 1224 → longer (flatOf s) x ≡ flatOf (s ++ (x ∷ []))
+longer-flat s x h =
     let n = length s in
-    let free : 816 - n ≡ suc (suc (814 - n)) = omega arith in
-    let len : length (s ++ (c ∷ (p ∷ []))) ≡ n + 2 = length-append s (c ∷ (p ∷ [])) in
-    let left : 814 - n ≡ 816 - length (s ++ (c ∷ (p ∷ []))) = omega arith in
-    let stored : set (set (s ++ replicate (816 - n) 0) n c) (n + 1) p ≡ (s ++ (c ∷ (p ∷ []))) ++ replicate (816 - length (s ++ (c ∷ (p ∷ [])))) 0 =
-    ap (λ (k : ℕ). set (set (s ++ replicate k 0) n c) (n + 1) p) free
-    ∙ ap (λ (x : List ℕ). set x (n + 1) p) (set-at s 0 (0 ∷ replicate (814 - n) 0) c n refl)
-    ∙ ap (λ (x : List ℕ). set x (n + 1) p) (sym (append-assoc s (c ∷ []) (0 ∷ replicate (814 - n) 0)))
-    ∙ set-at (s ++ (c ∷ [])) 0 (replicate (814 - n) 0) p (n + 1) (length-append s (c ∷ []))
-    ∙ append-assoc s (c ∷ []) (p ∷ replicate (814 - n) 0)
-    ∙ sym (append-assoc s (c ∷ (p ∷ [])) (replicate (814 - n) 0))
-    ∙ ap (λ (k : ℕ). (s ++ (c ∷ (p ∷ []))) ++ replicate k 0) left in
+    let free : 1224 - n ≡ suc (1223 - n) = omega arith in
+    let len : length (s ++ (x ∷ [])) ≡ n + 1 = length-append s (x ∷ []) in
+    let left : 1223 - n ≡ 1224 - length (s ++ (x ∷ [])) = omega arith in
+    let stored : set (s ++ replicate (1224 - n) 0) n x ≡ (s ++ (x ∷ [])) ++ replicate (1224 - length (s ++ (x ∷ []))) 0 =
+    ap (λ (k : ℕ). set (s ++ replicate k 0) n x) free
+    ∙ set-at s 0 (replicate (1223 - n) 0) x n refl
+    ∙ sym (append-assoc s (x ∷ []) (replicate (1223 - n) 0))
+    ∙ ap (λ (k : ℕ). (s ++ (x ∷ [])) ++ replicate k 0) left in
     λ i. record { numbers = stored i; len = sym len i }
 
-numbers-next : (kind : Kind) (es : List Entry) (e : Entry) → numbersOf kind (es ++ (e ∷ [])) ≡ numbersOf kind es ++ pairOf kind e
-numbers-next kind [] e = append-nil (pairOf kind e)
-numbers-next kind (x ∷ es) e = ap (λ (z : List ℕ). pairOf kind x ++ z) (numbers-next kind es e) ∙ sym (append-assoc (pairOf kind x) (numbersOf kind es) (pairOf kind e))
+longer-by : (s xs : List ℕ) → length s + length xs ≤ 1224 → longerBy (flatOf s) xs ≡ flatOf (s ++ xs)
+longer-by s [] h = ap flatOf (sym (append-nil s))
+longer-by s (x ∷ xs) h =
+    ap (λ (z : Flat). longerBy z xs) (longer-flat s x (omega arith))
+    ∙ longer-by (s ++ (x ∷ [])) xs (omega (arith, length-append s (x ∷ [])))
+    ∙ ap flatOf (append-assoc s (x ∷ []) xs)
 
--- The list of the row's own kind grows, the other stays.
-flat-next : (kind : Kind) (es : List Entry) (e : Entry) (c p : ℕ) → pairOf kind e ≡ c ∷ (p ∷ []) → length (numbersOf kind es) + 2 ≤ 816 → longer (flatOf (numbersOf kind es)) c p ≡ flatOf (numbersOf kind (es ++ (e ∷ [])))
-flat-next kind es e c p own h =
-    longer-flat (numbersOf kind es) c p h ∙ ap (λ (z : List ℕ). flatOf (numbersOf kind es ++ z)) (sym own) ∙ ap flatOf (sym (numbers-next kind es e))
+numbers-next : (kind : Kind) (es : List Entry) (e : Entry) → numbersOf kind (es ++ (e ∷ [])) ≡ numbersOf kind es ++ rowOf kind e
+numbers-next kind [] e = append-nil (rowOf kind e)
+numbers-next kind (x ∷ es) e = ap (λ (z : List ℕ). rowOf kind x ++ z) (numbers-next kind es e) ∙ sym (append-assoc (rowOf kind x) (numbersOf kind es) (rowOf kind e))
 
-flat-same : (kind : Kind) (es : List Entry) (e : Entry) → pairOf kind e ≡ [] → flatOf (numbersOf kind es) ≡ flatOf (numbersOf kind (es ++ (e ∷ [])))
-flat-same kind es e other =
-    ap flatOf (sym (append-nil (numbersOf kind es)) ∙ ap (λ (z : List ℕ). numbersOf kind es ++ z) (sym other) ∙ sym (numbers-next kind es e))
+flat-next : (kind : Kind) (es : List Entry) (e : Entry) → length (numbersOf kind (es ++ (e ∷ []))) ≤ 1224 → longerBy (flatOf (numbersOf kind es)) (rowOf kind e) ≡ flatOf (numbersOf kind (es ++ (e ∷ [])))
+flat-next kind es e h =
+    let most : length (numbersOf kind es) + length (rowOf kind e) ≤ 1224 =
+    omega (arith, ap length (numbers-next kind es e), length-append (numbersOf kind es) (rowOf kind e)) in
+    longer-by (numbersOf kind es) (rowOf kind e) most ∙ ap flatOf (sym (numbers-next kind es e))
 
-pushed-next : (es : List Entry) (kind : Kind) (c p : ℕ) → length es < 408 → pushed (tableOf es) kind c p ≡ tableOf (es ++ (entry kind c p ∷ []))
-pushed-next es Task c p h =
-    let tasks = flat-next Task es (entry Task c p) c p refl (omega (arith, numbers-both es)) in
-    let handlers = flat-same Handler es (entry Task c p) refl in
-    λ i. record { ok = true; tasks = tasks i; handlers = handlers i }
-pushed-next es Handler c p h =
-    let tasks = flat-same Task es (entry Handler c p) refl in
-    let handlers = flat-next Handler es (entry Handler c p) c p refl (omega (arith, numbers-both es)) in
-    λ i. record { ok = true; tasks = tasks i; handlers = handlers i }
+either-way : (a b c : Bool) → a || (b || c) ≡ b || (a || c)
+either-way true true c = refl
+either-way true false c = refl
+either-way false b c = refl
+
+misplaced-next : (es : List Entry) (e : Entry) → misplaced (es ++ (e ∷ [])) ≡ misplacedIn e || misplaced es
+misplaced-next [] e = refl
+misplaced-next (x ∷ es) e = ap (λ (z : Bool). misplacedIn x || z) (misplaced-next es e) ∙ either-way (misplacedIn x) (misplacedIn e) (misplaced es)
+
+pushed-next : (es : List Entry) (e : Entry) → length es < 408 → pushed (tableOf es) e ≡ tableOf (es ++ (e ∷ []))
+pushed-next es e h =
+    let most = numbers-most (es ++ (e ∷ [])) in
+    let one-more = length-append es (e ∷ []) in
+    let tasks = flat-next Task es e (omega (arith, most, one-more)) in
+    let handlers = flat-next Handler es e (omega (arith, most, one-more)) in
+    let deadline = misplaced-next es e in
+    λ i. record { ok = true; misplaced = sym deadline i; tasks = tasks i; handlers = handlers i }
+
+grown-next : (es fs : List Entry) → length es + length fs ≤ 408 → grown (tableOf es) fs ≡ tableOf (es ++ fs)
+grown-next es [] h = ap tableOf (sym (append-nil es))
+grown-next es (e ∷ fs) h =
+    ap (λ (t : Table). grown t fs) (pushed-next es e (omega arith))
+    ∙ grown-next (es ++ (e ∷ [])) fs (omega (arith, length-append es (e ∷ [])))
+    ∙ ap tableOf (append-assoc es (e ∷ []) fs)
 
 -- ---- one byte more, and the end
 
-same : (es : List Entry) → tableOf es ≡ tableOf (es ++ [])
-same es = ap tableOf (sym (append-nil es))
-
-fed-next : (es : List Entry) (st : State) (b : ℕ) → length es < 408 → fed (tableOf es) st b ≡ tableOf (es ++ added st b)
-fed-next es Broken b h = same es
-fed-next es (Head k) b h = same es
-fed-next es HeadCr b h = same es
-fed-next es Start b h = same es
-fed-next es (Name kind k) b h = same es
-fed-next es (CostFirst kind) b h = same es
-fed-next es (Cost kind v) b h = same es
-fed-next es (PeriodFirst kind c) b h = same es
-fed-next es (Period kind c v) b h = same es
-fed-next es (RowCr kind c v) b h =
-    by (λ t. pick t (pushed (tableOf es) kind c v) (tableOf es) ≡ tableOf (es ++ pick t (entry kind c v ∷ []) [])) (eqb b 10)
-    (λ e. pushed-next es kind c v h) (λ e. same es)
+fed-next : (es : List Entry) (st : State) (b : ℕ) → length (es ++ added st b) ≤ 408 → fed (tableOf es) st b ≡ tableOf (es ++ added st b)
+fed-next es st b h = grown-next es (added st b) (omega (arith, length-append es (added st b)))
 
 -- What an outcome comes to as a table.
 abbrev pub tableFor : Outcome → Table
 tableFor none = brokenTable
 tableFor (some es) = tableOf es
 
-closed-ended : (es : List Entry) (st : State) → length es < 408 → closed (tableOf es) st ≡ tableFor (ended st es)
-closed-ended es Broken h = refl
-closed-ended es (Head k) h = by (λ t. pick t brokenTable (tableOf es) ≡ tableFor (pick t none (some es))) (ltb k 16) (λ e. refl) (λ e. refl)
-closed-ended es HeadCr h = refl
-closed-ended es Start h = refl
-closed-ended es (Name kind k) h = refl
-closed-ended es (CostFirst kind) h = refl
-closed-ended es (Cost kind v) h = refl
-closed-ended es (PeriodFirst kind c) h = refl
-closed-ended es (Period kind c v) h = pushed-next es kind c v h
-closed-ended es (RowCr kind c v) h = refl
+closed-ended : (cols : Columns) (w : Run) → length (runFrom cols w crlf .rows) ≤ 408 → closed cols (tableOf (w .rows)) (w .st) ≡ tableFor (ended cols w)
+closed-ended cols w h =
+    let cr = stepOf cols (w .st) 13 in
+    by (λ t. pick t (fed (tableOf (w .rows)) (stepOf cols (w .st) 13) 10) (pick (isStart (w .st)) (tableOf (w .rows)) brokenTable)
+    ≡ tableFor (pick t (some (runFrom cols w crlf .rows)) (pick (isStart (w .st)) (some (w .rows)) none)))
+    (isStart (runFrom cols w crlf .st))
+    (λ e. fed-next (w .rows) cr 10 (subst (λ (z : List Entry). length (z ++ added cr 10) ≤ 408) (append-nil (w .rows)) h)
+    ∙ ap (λ (z : List Entry). tableOf (z ++ added cr 10)) (sym (append-nil (w .rows))))
+    (λ e. by (λ t. pick t (tableOf (w .rows)) brokenTable ≡ tableFor (pick t (some (w .rows)) none)) (isStart (w .st)) (λ _. refl) (λ _. refl))
+
+-- From the two steps of a CRLF: the last line lacked it, or did not.
+module _ (cols : Columns) (t r : Table) (st cr lf : State) (first : cr ≡ stepOf cols st 13) (then : lf ≡ stepOf cols cr 10) where
+  at-end : isStart (stepOf cols (stepOf cols st 13) 10) ≡ isStart lf
+  at-end = sym (ap isStart (then ∙ ap (λ (s : State). stepOf cols s 10) first))
+
+  pub closed-short : isStart lf ≡ true → r ≡ fed t cr 10 → r ≡ closed cols t st
+  closed-short e f =
+      f ∙ ap (λ (s : State). fed t s 10) first
+      ∙ sym (ap (λ (b : Bool). pick b (fed t (stepOf cols st 13) 10) (pick (isStart st) t brokenTable)) (at-end ∙ e))
+
+  pub closed-full : isStart lf ≡ false → r ≡ pick (isStart st) t brokenTable → r ≡ closed cols t st
+  closed-full e f = f ∙ sym (ap (λ (b : Bool). pick b (fed t (stepOf cols st 13) 10) (pick (isStart st) t brokenTable)) (at-end ∙ e))
 
 -- ---- the reader's loop: before the byte at i it stands where the run over the first i bytes does
 
-run-next : (w : Run) (xs : List ℕ) (b : ℕ) → runFrom w (xs ++ (b ∷ [])) ≡ next (runFrom w xs) b
-run-next w [] b = refl
-run-next w (x ∷ xs) b = run-next (next w x) xs b
+pub run-append : (cols : Columns) (w : Run) (xs ys : List ℕ) → runFrom cols w (xs ++ ys) ≡ runFrom cols (runFrom cols w xs) ys
+run-append cols w [] ys = refl
+run-append cols w (x ∷ xs) ys = run-append cols (next cols w x) xs ys
 
-run-take : (bs : List ℕ) (i : ℕ) → i < length bs → run (take (i + 1) bs) ≡ next (run (take i bs)) (getD bs i 0)
-run-take bs i h = ap (λ (n : ℕ). run (take n bs)) (add-one i) ∙ ap run (take-suc bs i 0 h) ∙ run-next (record { st = Head 0; rows = [] }) (take i bs) (getD bs i 0)
+run-take : (cols : Columns) (bs : List ℕ) (i : ℕ) → i < length bs → run cols (take (i + 1) bs) ≡ next cols (run cols (take i bs)) (getD bs i 0)
+run-take cols bs i h =
+    ap (λ (n : ℕ). run cols (take n bs)) (add-one i) ∙ ap (run cols) (take-suc bs i 0 h)
+    ∙ run-append cols (record { st = Head 0; rows = [] }) (take i bs) (getD bs i 0 ∷ [])
 
-module _ (bs : List ℕ) (small : length bs ≤ 4096) where
-  take-most : (i : ℕ) → length (run (take i bs) .rows) < 408
-  take-most i = run-most (take i bs) (rw length-take (omega arith))
+module _ (cols : Columns) (bs : List ℕ) (small : length bs ≤ 4096) where
+  take-most : (i : ℕ) → length (run cols (take i bs) .rows) < 408
+  take-most i = omega (arith, run-most cols (take i bs), length-take i bs)
 
-  pub loop-room : (i : ℕ) (t : Table) → t ≡ tableOf (run (take i bs) .rows) → Room t
-  loop-room i t e = rw e (room (run (take i bs) .rows) (take-most i))
+  pub loop-room : (i : ℕ) (t : Table) → t ≡ tableOf (run cols (take i bs) .rows) → Room t
+  loop-room i t e = rw e (room (run cols (take i bs) .rows) (take-most i))
 
-  pub loop-state : (i : ℕ) (st : State) → i < length bs → st ≡ run (take i bs) .st → stepOf st (getD bs i 0) ≡ run (take (i + 1) bs) .st
-  loop-state i st h e = ap (λ (s : State). stepOf s (getD bs i 0)) e ∙ sym (ap (λ (w : Run). w .st) (run-take bs i h))
+  pub loop-state : (i : ℕ) (st : State) → i < length bs → st ≡ run cols (take i bs) .st → stepOf cols st (getD bs i 0) ≡ run cols (take (i + 1) bs) .st
+  loop-state i st h e = ap (λ (s : State). stepOf cols s (getD bs i 0)) e ∙ sym (ap (λ (w : Run). w .st) (run-take cols bs i h))
 
-  pub loop-table : (i : ℕ) (t : Table) (st : State) → i < length bs → st ≡ run (take i bs) .st → t ≡ tableOf (run (take i bs) .rows) → fed t st (getD bs i 0) ≡ tableOf (run (take (i + 1) bs) .rows)
+  pub loop-table : (i : ℕ) (t : Table) (st : State) → i < length bs → st ≡ run cols (take i bs) .st → t ≡ tableOf (run cols (take i bs) .rows) → fed t st (getD bs i 0) ≡ tableOf (run cols (take (i + 1) bs) .rows)
   loop-table i t st h e f =
-      ap (λ (s : State). fed t s (getD bs i 0)) e ∙ ap (λ (x : Table). fed x (run (take i bs) .st) (getD bs i 0)) f
-      ∙ fed-next (run (take i bs) .rows) (run (take i bs) .st) (getD bs i 0) (take-most i)
-      ∙ sym (ap (λ (w : Run). tableOf (w .rows)) (run-take bs i h))
+      let before = run cols (take i bs) in
+      let after : run cols (take (i + 1) bs) .rows ≡ before .rows ++ added (before .st) (getD bs i 0) = ap (λ (w : Run). w .rows) (run-take cols bs i h) in
+      ap (λ (s : State). fed t s (getD bs i 0)) e ∙ ap (λ (x : Table). fed x (before .st) (getD bs i 0)) f
+      ∙ fed-next (before .rows) (before .st) (getD bs i 0) (omega (arith, ap length after, take-most (i + 1)))
+      ∙ sym (ap tableOf after)
 
-  pub loop-ends : (i : ℕ) (t : Table) (st : State) → length bs ≤ i → st ≡ run (take i bs) .st → t ≡ tableOf (run (take i bs) .rows) → closed t st ≡ tableFor (outcome bs)
-  loop-ends i t st h e f =
-      ap (λ (s : State). closed t s) e ∙ ap (λ (x : Table). closed x (run (take i bs) .st)) f
-      ∙ ap (λ (x : List ℕ). closed (tableOf (run x .rows)) (run x .st)) (take-all i bs h)
-      ∙ closed-ended (run bs .rows) (run bs .st) (run-most bs small)
-      ∙ sym (ap (λ (b : Bool). tableFor (pick b none (ended (run bs .st) (run bs .rows)))) (le-ltb 4096 (length bs) small))
+  pub loop-ends : (i : ℕ) (t : Table) (st : State) → cols ≡ columnsOf bs → length bs ≤ i → st ≡ run cols (take i bs) .st → t ≡ tableOf (run cols (take i bs) .rows) → closed cols t st ≡ tableFor (outcome bs)
+  loop-ends i t st told h e f =
+      let last : length (runFrom cols (run cols bs) crlf .rows) ≤ 408 =
+      omega (arith, ap (λ (w : Run). length (w .rows)) (run-append cols (record { st = Head 0; rows = [] }) bs crlf), run-most cols (bs ++ crlf), length-append bs crlf) in
+      ap (λ (s : State). closed cols t s) e ∙ ap (λ (x : Table). closed cols x (run cols (take i bs) .st)) f
+      ∙ ap (λ (x : List ℕ). closed cols (tableOf (run cols x .rows)) (run cols x .st)) (take-all i bs h)
+      ∙ closed-ended cols (run cols bs) last
+      ∙ ap (λ (x : Columns). tableFor (ended x (run x bs))) told
+      ∙ sym (ap (λ (b : Bool). tableFor (pick b none (ended (columnsOf bs) (run (columnsOf bs) bs)))) (le-ltb 4096 (length bs) small))
 
 pub over-long : (bs : List ℕ) → 4096 < length bs → brokenTable ≡ tableFor (outcome bs)
-over-long bs h = sym (ap (λ (b : Bool). tableFor (pick b none (ended (run bs .st) (run bs .rows)))) (lt-ltb 4096 (length bs) h))
+over-long bs h = sym (ap (λ (b : Bool). tableFor (pick b none (ended (columnsOf bs) (run (columnsOf bs) bs)))) (lt-ltb 4096 (length bs) h))

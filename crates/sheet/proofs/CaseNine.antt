@@ -1,39 +1,70 @@
--- Case 9 in full, from its bytes to its bytes.
+-- Case 9 in full, from its bytes to its bytes, under either header.
+use mathlib.Core.Bool.{false}
 use mathlib.Core.List.{List, [], _∷_}
 use mathlib.Core.Logic.{inl, inr}
 use mathlib.Core.Path.{_≡_, refl, _∙_}
 use native.Mathlib.Omega.{arith}
-use Rattle.sheet.specs.Example.{caseNine, caseNineSheet, CaseNinePrints}
+use Prim.Native.Nat.{ℕ}
+use Rattle.sheet.specs.Example.{caseNine, caseNineFour, caseNineSheet, Prints, CaseNinePrints}
 use Rattle.sheet.specs.Layout.{Entry, entry, text, FileSays}
 use Rattle.sheet.specs.Numbers.{decimal}
 use Rattle.sheet.specs.Printed.{lines, printed}
 use Rattle.sheet.specs.Text.{textOf}
-use Rattle.sheet.specs.Whole.{outputOf, SheetSays}
+use Rattle.sheet.specs.Whole.{TableFigures, FileFigures, outputOf}
+use Rattle.sheet.specs.declared.layout.Columns.the-variants.{Three, Four}
 use Rattle.sheet.specs.declared.layout.Kind.the-variants.{Task, Handler}
-use Rattle.verdict.specs.Cases.{cases}
+use Rattle.sheet.specs.declared.layout.Last.the-variants.{NoField, Empty, Number}
+use Rattle.verdict.specs.Cases.{cases, plain}
 use Rattle.verdict.specs.Promise.{Figures}
 use Rattle.verdict.specs.Promise.Word.{misses}
 use Rattle.verdict.proofs.Cases.{cases-hold}
 use Rattle.sheet.proofs.Sheets.{sheet-unique}
 
+-- ---- what the files say
+
 rows : List Entry
-rows = entry Task 2 5 ∷ entry Task 4 8 ∷ entry Handler 1 4 ∷ []
+rows = entry Task 2 5 NoField ∷ entry Task 4 8 NoField ∷ entry Handler 1 4 NoField ∷ []
+
+fourRows : List Entry
+fourRows = entry Task 2 5 (Number 5) ∷ entry Task 4 8 (Number 8) ∷ entry Handler 1 4 Empty ∷ []
+
+reads : FileSays caseNine rows
+unfolding rows decimal
+reads = record {
+  cols = Three;
+  small = omega arith;
+  lawful = ((omega arith, omega arith, tt), ((omega arith, omega arith, tt), ((omega arith, omega arith, tt), tt)));
+  written = inr refl;
+}
+
+fourReads : FileSays caseNineFour fourRows
+unfolding fourRows decimal
+fourReads = record {
+  cols = Four;
+  small = omega arith;
+  lawful = ((omega arith, omega arith, omega arith), ((omega arith, omega arith, omega arith), ((omega arith, omega arith, tt), tt)));
+  written = inr refl;
+}
+
+-- ---- and what is printed
 
 sheet : Figures
 sheet = record { word = misses; code = 0; interval = 10; handler = 3; task = 8; load = 1150000 }
 
-reads : FileSays caseNine rows
-unfolding rows decimal
-reads = record { small = omega arith; short = ((omega arith, omega arith), ((omega arith, omega arith), ((omega arith, omega arith), tt))); written = inr refl }
+judged : TableFigures false (2 ∷ 5 ∷ 5 ∷ 4 ∷ 8 ∷ 8 ∷ []) (1 ∷ 4 ∷ []) sheet
+unfolding TableFigures sheet cases plain
+judged = cases-hold .1 .1 .1 .1 .1 .1 .1 .1 .0 .holds
 
-prints : printed sheet ≡ caseNineSheet
+printed-lines : printed sheet ≡ caseNineSheet
 unfolding sheet printed lines decimal
-prints = refl
+printed-lines = refl
 
-says : SheetSays caseNine (outputOf sheet)
-unfolding rows sheet cases
-says = record { sheet = sheet; figures = inl (rows, reads, cases-hold .1 .1 .1 .1 .1 .1 .1 .1 .0 .holds); written = refl }
+prints : (bs : List ℕ) → FileFigures bs sheet → Prints bs caseNineSheet
+unfolding sheet
+prints bs figures out s =
+    sheet-unique bs out (outputOf sheet) s (record { sheet = sheet; figures = figures; written = refl })
+    ∙ λ i. record { text = textOf (printed-lines i); refusal = 0 }
 
 pub case-nine : CaseNinePrints
-unfolding sheet
-case-nine out s = sheet-unique caseNine out (outputOf sheet) s says ∙ λ i. record { text = textOf (prints i); refusal = 0 }
+unfolding rows fourRows
+case-nine = (prints caseNine (inl (rows, reads, judged)), prints caseNineFour (inl (fourRows, fourReads, judged)))

@@ -2,6 +2,7 @@ pub mod Digits
 pub mod Standing
 pub mod Room
 pub mod Builds
+pub mod Texts
 pub mod Accepts
 pub mod Writes
 pub mod Prints

@@ -23,7 +23,7 @@ getD-within (p ∷ ps) d (suc n) w h = getD-within ps d n (w .1) h
 
 phrases-within : Within phrases
 phrases-within =
-    (omega arith, (omega arith, (omega arith, (omega arith, (omega arith, (omega arith, (omega arith, (omega arith, (omega arith, (omega arith, (omega arith, (omega arith, (omega arith, tt)))))))))))))
+    (omega arith, (omega arith, (omega arith, (omega arith, (omega arith, (omega arith, (omega arith, (omega arith, (omega arith, (omega arith, (omega arith, (omega arith, (omega arith, (omega arith, tt))))))))))))))
 
 english-most : (n : ℕ) → length (english n) ≤ 160
 unfolding english
@@ -34,9 +34,9 @@ english-most n = getD-within phrases (ascii "unknown") n phrases-within (omega a
 pub said : (n k : ℕ) {r : Text} → n ≡ k → r ≡ putsOf blankText (english k) → r ≡ textOf (english n)
 said n k e w = w ∙ puts-blank (english k) (english-most k) ∙ ap (λ (x : ℕ). textOf (english x)) (sym e)
 
-english-past : (n : ℕ) → 13 ≤ n → english n ≡ ascii "unknown"
+english-past : (n : ℕ) → 14 ≤ n → english n ≡ ascii "unknown"
 unfolding english
 english-past n h = List·getD-eq-default phrases (ascii "unknown") h
 
-pub said-past : (n : ℕ) {r : Text} → 13 ≤ n → r ≡ putsOf blankText (ascii "unknown") → r ≡ textOf (english n)
+pub said-past : (n : ℕ) {r : Text} → 14 ≤ n → r ≡ putsOf blankText (ascii "unknown") → r ≡ textOf (english n)
 said-past n h w = w ∙ puts-blank (ascii "unknown") (omega arith) ∙ ap textOf (sym (english-past n h))

@@ -1,4 +1,4 @@
--- The English line of a refusal number (01, "Numbered refusals"): the table's own words.
+-- The English line of a refusal number (01, "Numbered refusals"; 02, M-101 for 1 and 13): the table's own words.
 --   english n   == the line of the number n, "unknown" for a number that is not in the table
 use mathlib.Core.List.{List, [], _∷_}
 use Prim.Native.Nat.{ℕ}
@@ -9,7 +9,7 @@ use Rattle.sheet.specs.Ascii.{ascii}
 abbrev pub phrases : List (List ℕ)
 phrases =
     ascii "unknown"
-    ∷ ascii "a list has an odd count of numbers"
+    ∷ ascii "a task list is not in threes, or a handler list has an odd count of numbers"
     ∷ ascii "no task, over 64 tasks or over 16 handlers"
     ∷ ascii "a cost or period is 0 or above 1,000,000"
     ∷ ascii "H is above 1,000,000,000"
@@ -21,6 +21,7 @@ phrases =
     ∷ ascii "an arrival comes before the row's next legal tick"
     ∷ ascii "an arrival brings more than the row's cost"
     ∷ ascii "the file breaks the layout below"
+    ∷ ascii "a deadline is 0 or above its period, or a handler has one"
     ∷ []
 
 unfoldable pub english : ℕ → List ℕ

@@ -1,7 +1,9 @@
--- Case 9 in full (01, "File and printed line"): what is read and what is printed.
+-- Case 9 in full (01, "File and printed line"; 02, M-101): what is read and what is printed.
 --   caseNine        == the file: rows `task,2,5`, `task,4,8`, `handler,1,4`
+--   caseNineFour    == the same table under the header of four columns, each deadline equal to its period
 --   caseNineSheet   == the two lines that 01 prints for it
---   CaseNinePrints  the sheet's promise allows these lines for that file and nothing else
+--   Prints bs ls    the sheet's promise allows the lines ls for the file bs and nothing else
+--   CaseNinePrints  both files print those lines
 use mathlib.Core.List.{List, _++_}
 use mathlib.Core.Path.{_≡_}
 use Prim.Native.Nat.{ℕ}
@@ -13,8 +15,14 @@ use Rattle.sheet.specs.declared.Output.{Output}
 abbrev pub caseNine : List ℕ
 caseNine = ascii "kind,cost,period" ++ crlf ++ ascii "task,2,5" ++ crlf ++ ascii "task,4,8" ++ crlf ++ ascii "handler,1,4" ++ crlf
 
+abbrev pub caseNineFour : List ℕ
+caseNineFour = ascii "kind,cost,period,deadline" ++ crlf ++ ascii "task,2,5,5" ++ crlf ++ ascii "task,4,8,8" ++ crlf ++ ascii "handler,1,4," ++ crlf
+
 abbrev pub caseNineSheet : List ℕ
 caseNineSheet = ascii "verdict,code,interval,handler,task,load" ++ crlf ++ ascii "misses,0,10,3,8,1150000" ++ crlf
 
+abbrev pub Prints : List ℕ → List ℕ → Type 0
+Prints bs ls = (out : Output) → SheetSays bs out → out ≡ record { text = textOf ls; refusal = 0 }
+
 abbrev pub CaseNinePrints : Type 0
-CaseNinePrints = (out : Output) → SheetSays caseNine out → out ≡ record { text = textOf caseNineSheet; refusal = 0 }
+CaseNinePrints = Prints caseNine caseNineSheet × Prints caseNineFour caseNineSheet

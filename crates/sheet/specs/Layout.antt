@@ -1,10 +1,14 @@
--- The layout of a file (01, "File and printed line"), by how rows are written as text.
---   Entry           == a row of a file: its kind, its cost and its period
+-- The layout of a file (01, "File and printed line"; 02, M-101), by how rows are written as text.
+--   Columns         == the columns that a header names, `Three` or `Four`; headerOf gives its text
+--   Last            == what stands behind a row's period: no field at all, an empty one or a number, the deadline
+--   Entry           == a row of a file: its kind, its cost, its period and its last field
 --   nameOf kind     == `task` or `handler`
---   entryText e     == the row e: the kind's name and two numbers, with commas between
---   text es         == the header, then each row of es on a line of its own: CRLF between lines
+--   entryText e     == the row e: the kind's name and two numbers, with commas between, then its last field
+--   text cols es    == the header, then each row of es on a line of its own: CRLF between lines
 --   fileMost        == the most bytes of a file
---   Short e         both numbers have at most 7 digits
+--   EndsRow cols    which last fields a row may have: none under three columns; under four a number of at most 7 digits,
+--                   and for a handler an empty one too
+--   Lawful cols e   both numbers have at most 7 digits, and the row's last field is one that it may have
 --   FileSays bs es  the file bs says the rows es: at most 4,096 bytes, their text, with or without the last CRLF
 --   SaysNothing bs  the file bs breaks the layout: it says no rows
 --   OneTable        a file says one list of rows at most: a statement about FileSays
@@ -14,44 +18,64 @@ use mathlib.Core.Path.{_≡_}
 use Prim.Native.Nat.{ℕ, _≤_, _<_}
 use lib.ListN.{length}
 use Rattle.sheet.specs.Ascii.{ascii, crlf}
-use Rattle.sheet.specs.Numbers.{field}
+use Rattle.sheet.specs.Numbers.{comma, field}
+use Rattle.sheet.specs.declared.layout.Columns.{Columns}
+use Rattle.sheet.specs.declared.layout.Columns.the-variants.{Three, Four}
 use Rattle.sheet.specs.declared.layout.Kind.{Kind}
 use Rattle.sheet.specs.declared.layout.Kind.the-variants.{Task, Handler}
+use Rattle.sheet.specs.declared.layout.Last.{Last}
+use Rattle.sheet.specs.declared.layout.Last.the-variants.{NoField, Empty, Number}
 
 pub data Entry : Type 0 where
-  entry : Kind → ℕ → ℕ → Entry
+  entry : Kind → ℕ → ℕ → Last → Entry
 
 abbrev pub fileMost : ℕ
 fileMost = 4096
 
-abbrev pub header : List ℕ
-header = ascii "kind,cost,period"
+abbrev pub headerOf : Columns → List ℕ
+headerOf Three = ascii "kind,cost,period"
+headerOf Four = ascii "kind,cost,period,deadline"
 
 abbrev pub nameOf : Kind → List ℕ
 nameOf Task = ascii "task"
 nameOf Handler = ascii "handler"
 
+abbrev pub lastText : Last → List ℕ
+lastText NoField = []
+lastText Empty = comma ∷ []
+lastText (Number d) = field d
+
 abbrev pub entryText : Entry → List ℕ
-entryText (entry kind c p) = nameOf kind ++ (field c ++ field p)
+entryText (entry kind c p last) = nameOf kind ++ (field c ++ (field p ++ lastText last))
 
 abbrev pub body : List Entry → List ℕ
 body [] = []
 body (e ∷ es) = crlf ++ entryText e ++ body es
 
-abbrev pub text : List Entry → List ℕ
-text es = header ++ body es
+abbrev pub text : Columns → List Entry → List ℕ
+text cols es = headerOf cols ++ body es
 
-abbrev pub Short : Entry → Type 0
-Short (entry kind c p) = (c < 10000000) × (p < 10000000)
+abbrev pub EndsRow : Columns → Last → Kind → Type 0
+EndsRow Three NoField kind = Unit
+EndsRow Three Empty kind = ⊥
+EndsRow Three (Number d) kind = ⊥
+EndsRow Four NoField kind = ⊥
+EndsRow Four Empty Task = ⊥
+EndsRow Four Empty Handler = Unit
+EndsRow Four (Number d) kind = d < 10000000
 
-abbrev pub AllShort : List Entry → Type 0
-AllShort [] = Unit
-AllShort (e ∷ es) = Short e × AllShort es
+abbrev pub Lawful : Columns → Entry → Type 0
+Lawful cols (entry kind c p last) = (c < 10000000) × (p < 10000000) × EndsRow cols last kind
+
+abbrev pub AllLawful : Columns → List Entry → Type 0
+AllLawful cols [] = Unit
+AllLawful cols (e ∷ es) = Lawful cols e × AllLawful cols es
 
 pub record FileSays (bs : List ℕ) (es : List Entry) : Type 0 where
+  pub cols : Columns
   pub small : length bs ≤ fileMost
-  pub short : AllShort es
-  pub written : (bs ≡ text es) ⊎ (bs ≡ text es ++ crlf)
+  pub lawful : AllLawful cols es
+  pub written : (bs ≡ text cols es) ⊎ (bs ≡ text cols es ++ crlf)
 
 abbrev pub SaysNothing : List ℕ → Type 0
 SaysNothing bs = (es : List Entry) → FileSays bs es → ⊥

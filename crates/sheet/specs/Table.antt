@@ -1,11 +1,14 @@
--- What a file's rows come to as the two lists of a table (01, "Tables and figures").
---   numbersOf kind es   == the flat list of the rows of this kind, in their order: cost, period, cost, period, ..
---   flatOf s            == the list s with zeros behind, up to 816 places, and its length
+-- What a file's rows come to as the two lists of a table (01, "Tables and figures"; 02, M-101).
+--   deadlineOf p last   == the deadline of a task of period p: the number in its last field, or else its period
+--   numbersOf kind es   == the flat list of the rows of this kind, in their order: cost, period and, for a task, deadline
+--   flatMost            == the most numbers of a list: 408 rows of three
+--   flatOf s            == the list s with zeros behind, up to that many places, and its length
+--   misplaced es        == some handler of es has a deadline
 --   tableOf es          == the table of the rows es
 --   bareTable ok        == a table without rows; brokenTable is the answer to a broken file
 --   ReadSays bs t       t is the reader's answer to the file bs: the table of the rows that it says, or broken where it says none
 --   OneReading          a file has one such answer and no other: a statement about ReadSays
-use mathlib.Core.Bool.{Bool, true, false}
+use mathlib.Core.Bool.{Bool, true, false, _||_}
 use mathlib.Core.List.{List, [], _∷_, _++_}
 use mathlib.Core.Logic.{_⊎_}
 use mathlib.Core.Path.{_≡_}
@@ -14,27 +17,51 @@ use lib.ListN.{length, replicate}
 use Rattle.sheet.specs.Layout.{Entry, entry, FileSays, SaysNothing}
 use Rattle.sheet.specs.declared.layout.Kind.{Kind}
 use Rattle.sheet.specs.declared.layout.Kind.the-variants.{Task, Handler}
+use Rattle.sheet.specs.declared.layout.Last.{Last}
+use Rattle.sheet.specs.declared.layout.Last.the-variants.{NoField, Empty, Number}
 use Rattle.sheet.specs.declared.reader.Flat.{Flat}
 use Rattle.sheet.specs.declared.reader.Table.{Table}
 
-abbrev pub pairOf : Kind → Entry → List ℕ
-pairOf Task (entry Task c p) = c ∷ p ∷ []
-pairOf Task (entry Handler c p) = []
-pairOf Handler (entry Task c p) = []
-pairOf Handler (entry Handler c p) = c ∷ p ∷ []
+abbrev pub deadlineOf : ℕ → Last → ℕ
+deadlineOf p NoField = p
+deadlineOf p Empty = p
+deadlineOf p (Number d) = d
+
+-- the numbers of a row where it is of this kind
+abbrev pub rowOf : Kind → Entry → List ℕ
+rowOf Task (entry Task c p last) = c ∷ p ∷ deadlineOf p last ∷ []
+rowOf Task (entry Handler c p last) = []
+rowOf Handler (entry Task c p last) = []
+rowOf Handler (entry Handler c p last) = c ∷ p ∷ []
 
 abbrev pub numbersOf : Kind → List Entry → List ℕ
 numbersOf kind [] = []
-numbersOf kind (e ∷ es) = pairOf kind e ++ numbersOf kind es
+numbersOf kind (e ∷ es) = rowOf kind e ++ numbersOf kind es
+
+abbrev pub isNumber : Last → Bool
+isNumber NoField = false
+isNumber Empty = false
+isNumber (Number d) = true
+
+abbrev pub misplacedIn : Entry → Bool
+misplacedIn (entry Task c p last) = false
+misplacedIn (entry Handler c p last) = isNumber last
+
+abbrev pub misplaced : List Entry → Bool
+misplaced [] = false
+misplaced (e ∷ es) = misplacedIn e || misplaced es
+
+abbrev pub flatMost : ℕ
+flatMost = 1224
 
 abbrev pub flatOf : List ℕ → Flat
-flatOf s = record { numbers = s ++ replicate (816 - length s) 0; len = length s }
+flatOf s = record { numbers = s ++ replicate (flatMost - length s) 0; len = length s }
 
 abbrev pub tableOf : List Entry → Table
-tableOf es = record { ok = true; tasks = flatOf (numbersOf Task es); handlers = flatOf (numbersOf Handler es) }
+tableOf es = record { ok = true; misplaced = misplaced es; tasks = flatOf (numbersOf Task es); handlers = flatOf (numbersOf Handler es) }
 
 abbrev pub bareTable : Bool → Table
-bareTable ok = record { ok = ok; tasks = flatOf []; handlers = flatOf [] }
+bareTable ok = record { ok = ok; misplaced = false; tasks = flatOf []; handlers = flatOf [] }
 
 abbrev pub brokenTable : Table
 brokenTable = bareTable false

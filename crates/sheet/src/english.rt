@@ -12,7 +12,9 @@ fn of_table(number: u32) -> Text
     ensures { λ r. ⌜ r ≡ textOf (english number) ⌝ }
 {
     match number {
-        1 => text::of(b"a list has an odd count of numbers"),
+        1 => text::of(
+            b"a task list is not in threes, or a handler list has an odd count of numbers",
+        ),
         2 => text::of(b"no task, over 64 tasks or over 16 handlers"),
         3 => text::of(b"a cost or period is 0 or above 1,000,000"),
         4 => text::of(b"H is above 1,000,000,000"),
@@ -43,6 +45,7 @@ pub fn line(number: u32) -> Text
         1..=5 => of_table(number),
         6..=11 => of_run(number),
         12 => text::of(b"the file breaks the layout below"),
+        13 => text::of(b"a deadline is 0 or above its period, or a handler has one"),
         _ => text::of(b"unknown"),
     }
 }

@@ -1,14 +1,29 @@
 // The layout of a file, byte by byte: where a reader stands, and where the next byte takes it.
-ghost use mathlib.Core.Bool.{true};
 ghost use mathlib.Core.Path.{_≡_};
-ghost use Prim.Native.Nat.{_+_, _-_, _*_};
 ghost use lib.ListN.{length, getD};
-ghost use Rattle.sheet.specs.Layout.{nameOf};
-ghost use Rattle.sheet.specs.Steps.{isDigit, continues, stepOf};
+ghost use Rattle.sheet.specs.Layout.{headerOf, nameOf};
+ghost use Rattle.sheet.specs.Steps.{behindPeriod, afterPeriod, emptyLast, stepOf, Leads, isStart};
+use crate::numerals;
+
+// The columns that the header names: the deadline's is the fourth.
+pub enum Columns {
+    Three,
+    Four,
+}
 
 pub enum Kind {
     Task,
     Handler,
+}
+
+// What stands behind a row's period.
+pub enum Last {
+    // Nothing: there are three columns.
+    NoField,
+    // A comma and no number.
+    Empty,
+    // A comma and the deadline.
+    Number(u32),
 }
 
 // Where the reader stands in the text.
@@ -31,43 +46,39 @@ pub enum State {
     PeriodFirst(Kind, u32),
     // Some digits of the period.
     Period(Kind, u32, u32),
+    // The period and a comma.
+    DeadlineFirst(Kind, u32, u32),
+    // Some digits of the deadline.
+    Deadline(Kind, u32, u32, u32),
     // A row and a CR.
-    RowCr(Kind, u32, u32),
+    RowCr(Kind, u32, u32, Last),
 }
 
-const HEADER: [u8; 16] = *b"kind,cost,period";
+const THREE: [u8; 16] = *b"kind,cost,period";
+
+const FOUR: [u8; 25] = *b"kind,cost,period,deadline";
 
 const TASK: [u8; 4] = *b"task";
 
 const HANDLER: [u8; 7] = *b"handler";
 
-fn is_digit(b: u8) -> bool
-    ensures { λ r. ⌜ r ≡ isDigit b ⌝ }
+fn header_len(columns: Columns) -> usize
+    ensures { λ r. ⌜ r ≡ length (headerOf columns) ⌝ }
 {
-    (b'0' <= b) & (b <= b'9')
+    match columns {
+        Columns::Three => 16,
+        Columns::Four => 25,
+    }
 }
 
-// What a digit is worth.
-fn worth(b: u8) -> u32
-    requires { ⌜ isDigit b ≡ true ⌝ }
-    ensures { λ r. ⌜ r ≡ b - 48 ⌝ }
+// The byte at a place of a header, or 0 past its end.
+fn header_byte(columns: Columns, k: usize) -> u8
+    ensures { λ r. ⌜ r ≡ getD (headerOf columns) k 0 ⌝ }
 {
-    (b - b'0') as u32
-}
-
-// May b stand behind the digits of v? No digit stands behind a leading zero, nor behind seven digits.
-fn continues(v: u32, b: u8) -> bool
-    ensures { λ r. ⌜ r ≡ continues v b ⌝ }
-{
-    is_digit(b) & (0 < v) & (v < 1_000_000)
-}
-
-// The number v with one digit more.
-fn extended(v: u32, b: u8) -> u32
-    requires { ⌜ continues v b ≡ true ⌝ }
-    ensures { λ r. ⌜ r ≡ v * 10 + (b - 48) ⌝ }
-{
-    v * 10 + worth(b)
+    match columns {
+        Columns::Three => { if k < 16 { THREE[k] } else { 0 } }
+        Columns::Four => { if k < 25 { FOUR[k] } else { 0 } }
+    }
 }
 
 fn name_len(kind: Kind) -> usize
@@ -89,11 +100,11 @@ fn letter(kind: Kind, k: usize) -> u8
     }
 }
 
-fn in_head(k: usize, b: u8) -> State
-    ensures { λ r. ⌜ r ≡ stepOf (State.Head k) b ⌝ }
+fn in_head(columns: Columns, k: usize, b: u8) -> State
+    ensures { λ r. ⌜ r ≡ stepOf columns (State.Head k) b ⌝ }
 {
-    if k < 16 {
-        if b == HEADER[k] {
+    if k < header_len(columns) {
+        if b == header_byte(columns, k) {
             State::Head(k + 1)
         } else {
             State::Broken
@@ -107,7 +118,7 @@ fn in_head(k: usize, b: u8) -> State
 
 // A CR was read: only an LF may follow.
 fn at_end(b: u8) -> State
-    ensures { λ r. ⌜ r ≡ stepOf State.HeadCr b ⌝ }
+    ensures { λ r. ⌜ Leads State.HeadCr b r ⌝ }
 {
     if b == b'\n' {
         State::Start
@@ -117,7 +128,7 @@ fn at_end(b: u8) -> State
 }
 
 fn at_start(b: u8) -> State
-    ensures { λ r. ⌜ r ≡ stepOf State.Start b ⌝ }
+    ensures { λ r. ⌜ Leads State.Start b r ⌝ }
 {
     if b == b't' {
         State::Name(Kind::Task, 1)
@@ -129,7 +140,7 @@ fn at_start(b: u8) -> State
 }
 
 fn in_name(kind: Kind, k: usize, b: u8) -> State
-    ensures { λ r. ⌜ r ≡ stepOf (State.Name kind k) b ⌝ }
+    ensures { λ r. ⌜ Leads (State.Name kind k) b r ⌝ }
 {
     if k < name_len(kind) {
         if b == letter(kind, k) {
@@ -145,63 +156,127 @@ fn in_name(kind: Kind, k: usize, b: u8) -> State
 }
 
 fn in_first(kind: Kind, b: u8) -> State
-    ensures { λ r. ⌜ r ≡ stepOf (State.CostFirst kind) b ⌝ }
+    ensures { λ r. ⌜ Leads (State.CostFirst kind) b r ⌝ }
 {
-    if is_digit(b) {
-        State::Cost(kind, worth(b))
+    if numerals::is_digit(b) {
+        State::Cost(kind, numerals::worth(b))
     } else {
         State::Broken
     }
 }
 
 fn in_cost(kind: Kind, v: u32, b: u8) -> State
-    ensures { λ r. ⌜ r ≡ stepOf (State.Cost kind v) b ⌝ }
+    ensures { λ r. ⌜ Leads (State.Cost kind v) b r ⌝ }
 {
     if b == b',' {
         State::PeriodFirst(kind, v)
-    } else if continues(v, b) {
-        State::Cost(kind, extended(v, b))
+    } else if numerals::continues(v, b) {
+        State::Cost(kind, numerals::extended(v, b))
     } else {
         State::Broken
     }
 }
 
 fn in_second(kind: Kind, c: u32, b: u8) -> State
-    ensures { λ r. ⌜ r ≡ stepOf (State.PeriodFirst kind c) b ⌝ }
+    ensures { λ r. ⌜ Leads (State.PeriodFirst kind c) b r ⌝ }
 {
-    if is_digit(b) {
-        State::Period(kind, c, worth(b))
+    if numerals::is_digit(b) {
+        State::Period(kind, c, numerals::worth(b))
     } else {
         State::Broken
     }
 }
 
-fn in_period(kind: Kind, c: u32, v: u32, b: u8) -> State
-    ensures { λ r. ⌜ r ≡ stepOf (State.Period kind c v) b ⌝ }
+fn behind_period(columns: Columns) -> u8
+    ensures { λ r. ⌜ r ≡ behindPeriod columns ⌝ }
+{
+    match columns {
+        Columns::Three => b'\r',
+        Columns::Four => b',',
+    }
+}
+
+fn after_period(columns: Columns, kind: Kind, c: u32, p: u32) -> State
+    ensures { λ r. ⌜ r ≡ afterPeriod columns kind c p ⌝ }
+{
+    match columns {
+        Columns::Three => State::RowCr(kind, c, p, Last::NoField),
+        Columns::Four => State::DeadlineFirst(kind, c, p),
+    }
+}
+
+fn in_period(columns: Columns, kind: Kind, c: u32, v: u32, b: u8) -> State
+    ensures { λ r. ⌜ r ≡ stepOf columns (State.Period kind c v) b ⌝ }
+{
+    if b == behind_period(columns) {
+        after_period(columns, kind, c, v)
+    } else if numerals::continues(v, b) {
+        State::Period(kind, c, numerals::extended(v, b))
+    } else {
+        State::Broken
+    }
+}
+
+// A row that ends behind its last comma: a handler's may, a task has a deadline.
+fn empty_last(kind: Kind, c: u32, p: u32) -> State
+    ensures { λ r. ⌜ r ≡ emptyLast kind c p ⌝ }
+{
+    match kind {
+        Kind::Task => State::Broken,
+        Kind::Handler => State::RowCr(Kind::Handler, c, p, Last::Empty),
+    }
+}
+
+fn in_third(kind: Kind, c: u32, p: u32, b: u8) -> State
+    ensures { λ r. ⌜ Leads (State.DeadlineFirst kind c p) b r ⌝ }
 {
     if b == b'\r' {
-        State::RowCr(kind, c, v)
-    } else if continues(v, b) {
-        State::Period(kind, c, extended(v, b))
+        empty_last(kind, c, p)
+    } else if numerals::is_digit(b) {
+        State::Deadline(kind, c, p, numerals::worth(b))
+    } else {
+        State::Broken
+    }
+}
+
+fn in_deadline(kind: Kind, c: u32, p: u32, v: u32, b: u8) -> State
+    ensures { λ r. ⌜ Leads (State.Deadline kind c p v) b r ⌝ }
+{
+    if b == b'\r' {
+        State::RowCr(kind, c, p, Last::Number(v))
+    } else if numerals::continues(v, b) {
+        State::Deadline(kind, c, p, numerals::extended(v, b))
     } else {
         State::Broken
     }
 }
 
 // Where the byte b takes a reader that stands at st.
-pub fn step(st: State, b: u8) -> State
-    ensures { λ r. ⌜ r ≡ stepOf st b ⌝ }
+pub fn step(columns: Columns, st: State, b: u8) -> State
+    ensures { λ r. ⌜ r ≡ stepOf columns st b ⌝ }
 {
     match st {
         State::Broken => State::Broken,
-        State::Head(k) => in_head(k, b),
+        State::Head(k) => in_head(columns, k, b),
         State::HeadCr => at_end(b),
         State::Start => at_start(b),
         State::Name(kind, k) => in_name(kind, k, b),
         State::CostFirst(kind) => in_first(kind, b),
         State::Cost(kind, v) => in_cost(kind, v, b),
         State::PeriodFirst(kind, c) => in_second(kind, c, b),
-        State::Period(kind, c, v) => in_period(kind, c, v, b),
-        State::RowCr(_, _, _) => at_end(b),
+        State::Period(kind, c, v) => in_period(columns, kind, c, v, b),
+        State::DeadlineFirst(kind, c, p) => in_third(kind, c, p, b),
+        State::Deadline(kind, c, p, v) => in_deadline(kind, c, p, v, b),
+        State::RowCr(_, _, _, _) => at_end(b),
+    }
+}
+
+// Is the reader at the start of a row's line?
+pub fn is_start(st: State) -> bool
+    ensures { λ r. ⌜ r ≡ isStart st ⌝ }
+{
+    match st {
+        State::Start => true,
+        _ => false,
     }
 }

@@ -1,13 +1,14 @@
 // The sheet of a file: a table in, two printed lines out.
 pub mod english;
 mod layout;
+mod numerals;
 pub mod printed;
 pub mod reader;
 pub mod text;
 
 ghost use mathlib.Core.Path.{_≡_};
 ghost use Rattle.verdict.specs.Promise.{figures};
-ghost use Rattle.sheet.specs.Whole.{outputOf, SheetSays};
+ghost use Rattle.sheet.specs.Whole.{TableFigures, outputOf, SheetSays};
 use text::Text;
 use verdict::Answer;
 
@@ -26,13 +27,29 @@ pub fn sheet(input: &[u8]) -> Output
     if !ok {
         return written(Answer::Refused { number: 12 });
     }
+    let misplaced = table.misplaced;
     let tasks = table.tasks;
     let handlers = table.handlers;
     let task_numbers = tasks.numbers;
     let handler_numbers = handlers.numbers;
     let n = tasks.len;
     let m = handlers.len;
-    written(verdict::verdict(&task_numbers[..n], &handler_numbers[..m]))
+    written(answer(misplaced, &task_numbers[..n], &handler_numbers[..m]))
+}
+
+// The answer to a table: the verdict, or a refusal where a handler has a deadline, 13 unless a lower number applies.
+fn answer(misplaced: bool, tasks: &[u32], handlers: &[u32]) -> Answer
+    ensures { λ r. ⌜ TableFigures misplaced (now (tasks .entry)) (now (handlers .entry)) (figures r) ⌝ }
+{
+    if !misplaced {
+        return verdict::verdict(tasks, handlers);
+    }
+    let number = demand::refusal::of_table(tasks, handlers);
+    if number == 0 {
+        Answer::Refused { number: 13 }
+    } else {
+        Answer::Refused { number }
+    }
 }
 
 // What is written of an answer.

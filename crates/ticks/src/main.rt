@@ -1,4 +1,4 @@
-// Runs cases 13 and 14, and asks for each refusal of a step, each clause of refusal 6 among them.
+// Runs cases 13 and 14 and cases with a deadline before the next arrival, and asks for each refusal of a step, each clause of refusal 6 among them.
 use libc::STDOUT_FILENO;
 use scheduler::Answer;
 use scheduler::Late;
@@ -70,7 +70,7 @@ fn beat(t: u64, cost: u32, period: u64) -> u32 {
 }
 
 fn case_9() -> Run {
-    Run::fresh(&[2, 5, 4, 8], &[1, 4]).run
+    Run::fresh(&[2, 5, 5, 4, 8, 8], &[1, 4]).run
 }
 
 // Case 13: case 9 with all rows arriving at 0 and each period. The run that it leaves is over.
@@ -90,12 +90,40 @@ fn case_13() -> Run {
 // Case 14: case 6, task arriving at 0 and again at 2.
 fn case_14() {
     say(b"case 14: ");
-    let first = step(Run::fresh(&[1, 3], &[2, 10]).run, &[1, 0]);
+    let first = step(Run::fresh(&[1, 3, 3], &[2, 10]).run, &[1, 0]);
     say(b" ");
     let second = step(first, &[0, 0]);
     say(b" ");
     step(second, &[1, 0]);
     say(b"\n");
+}
+
+// Task 1/4 with this deadline, handler 2/10.
+fn sharp(deadline: u32) -> Run {
+    Run::fresh(&[1, 4, deadline], &[2, 10]).run
+}
+
+// A run of two rows that bring c and d at 0 and each of their periods p and q, for so many ticks.
+fn both_arrive(fresh: Run, c: u32, p: u64, d: u32, q: u64, ticks: u64) {
+    let mut run = fresh;
+    let mut t = 0;
+    while t < ticks {
+        say(b" ");
+        run = step(run, &[beat(t, c, p), beat(t, d, q)]);
+        t += 1;
+    }
+    say(b"\n");
+}
+
+// A deadline before the next arrival: 2 of 4 ticks are too few beside the handler, 3 are enough.
+fn deadlines() {
+    say(b"deadline 2 of 4:");
+    both_arrive(sharp(2), 1, 4, 2, 10, 3);
+    say(b"deadline 3 of 4:");
+    both_arrive(sharp(3), 1, 4, 2, 10, 14);
+    // Tasks 1/4 with deadline 4 and 1/6 with deadline 2: task 1 is due first, though it may come again later.
+    say(b"due before it may come again:");
+    both_arrive(Run::fresh(&[1, 4, 4, 1, 6, 2], &[]).run, 1, 4, 1, 6, 6);
 }
 
 // ---- runs made elsewhere: a run with one thing changed
@@ -115,7 +143,7 @@ fn with_clock(run: Run, clock: u64) -> Run {
 
 fn with_task_number(run: Run, k: usize, x: u32) -> Run {
     let mut r = run;
-    if k < 128 {
+    if k < 192 {
         r.tasks[k] = x;
     }
     r
@@ -137,6 +165,14 @@ fn with_next(run: Run, k: usize, x: u64) -> Run {
     r
 }
 
+fn with_due(run: Run, k: usize, x: u64) -> Run {
+    let mut r = run;
+    if k < 64 {
+        r.due[k] = x;
+    }
+    r
+}
+
 fn with_owed(run: Run, k: usize, x: u64) -> Run {
     let mut r = run;
     if k < 80 {
@@ -149,6 +185,7 @@ fn with_late(run: Run, over: bool, late: Late) -> Run {
     let tasks = run.tasks;
     let handlers = run.handlers;
     let next = run.next;
+    let due = run.due;
     let owed = run.owed;
     Run {
         tasks,
@@ -157,6 +194,7 @@ fn with_late(run: Run, over: bool, late: Late) -> Run {
         handler_count: run.handler_count,
         clock: run.clock,
         next,
+        due,
         owed,
         over,
         late,
@@ -165,7 +203,10 @@ fn with_late(run: Run, over: bool, late: Late) -> Run {
 
 // Task 0, of cost 2 and period 5, owed 1 and due at 5, at clock 5.
 fn due_now() -> Run {
-    with_clock(with_owed(with_next(case_9(), 0, 5), 0, 1), 5)
+    with_clock(
+        with_owed(with_due(with_next(case_9(), 0, 5), 0, 5), 0, 1),
+        5,
+    )
 }
 
 fn table_clauses() {
@@ -173,15 +214,25 @@ fn table_clauses() {
     ask(b"6, no task", with_counts(run, 0, 1), &[0]);
     ask(b"6, 65 tasks", with_counts(run, 65, 1), &[0, 0, 0]);
     ask(b"6, 17 handlers", with_counts(run, 2, 17), &[0, 0, 0]);
-    ask(b"6, cost 0", with_task_number(run, 2, 0), &[0, 0, 0]);
+    ask(b"6, cost 0", with_task_number(run, 3, 0), &[0, 0, 0]);
     ask(
         b"6, period 1000001",
         with_handler_number(run, 1, 1000001),
         &[0, 0, 0],
     );
     ask(
+        b"6, a deadline of its own of 0",
+        with_task_number(run, 2, 0),
+        &[0, 0, 0],
+    );
+    ask(
+        b"6, a deadline of its own above the period",
+        with_task_number(run, 2, 6),
+        &[0, 0, 0],
+    );
+    ask(
         b"6, a number past the last task",
-        with_task_number(run, 4, 1),
+        with_task_number(run, 6, 1),
         &[0, 0, 0],
     );
     ask(
@@ -192,6 +243,11 @@ fn table_clauses() {
     ask(
         b"6, a next arrival past the last row",
         with_next(run, 3, 1),
+        &[0, 0, 0],
+    );
+    ask(
+        b"6, a deadline past the last task",
+        with_due(with_next(run, 2, 1), 2, 1),
         &[0, 0, 0],
     );
     ask(
@@ -214,8 +270,18 @@ fn row_clauses() {
         &[0, 0, 0],
     );
     ask(
+        b"6, a deadline above clock + the row's own",
+        with_due(with_next(sharp(2), 0, 4), 0, 3),
+        &[0, 0],
+    );
+    ask(
+        b"6, a deadline after the next arrival",
+        with_due(with_next(sharp(2), 0, 1), 0, 2),
+        &[0, 0],
+    );
+    ask(
         b"6, a task owed more than its cost",
-        with_owed(with_next(run, 0, 5), 0, 3),
+        with_owed(with_due(with_next(run, 0, 5), 0, 5), 0, 3),
         &[0, 0, 0],
     );
     ask(
@@ -295,6 +361,11 @@ fn edges() {
         &[0, 4, 0],
     );
     ask(
+        b"a deadline at clock + the row's own",
+        with_due(with_next(sharp(2), 0, 4), 0, 2),
+        &[0, 2],
+    );
+    ask(
         b"a handler owed clock times cost",
         with_owed(with_clock(run, 3), 2, 3),
         &[0, 0, 0],
@@ -306,6 +377,7 @@ fn edges() {
 fn main() {
     let over = case_13();
     case_14();
+    deadlines();
     table_clauses();
     row_clauses();
     late_clauses();

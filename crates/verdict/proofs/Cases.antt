@@ -15,15 +15,15 @@ use lib.Dec.{eqb}
 use Prim.Native.Nat.{ℕ, zero, suc, _+_, _-_, _≤_, _<_}
 use Rattle.demand.specs.Demands.{called, grow, taken, handled, due, Passes}
 use Rattle.demand.specs.Refusals.{tableThen}
-use Rattle.demand.specs.Rows.{Row, rowsOf, tasksOf, handlersOf, total, some}
+use Rattle.demand.specs.Rows.{Row, tasksOf, handlersOf, total, some}
 use Rattle.demand.proofs.Divide.{le-or-lt}
-use Rattle.verdict.specs.Cases.{Case, cases, CaseHolds, EveryCase}
-use Rattle.verdict.specs.Facts.{PassesTo, endBy, searchEnd}
-use Rattle.verdict.specs.Loads.{work, whole, costs, millionths, load}
+use Rattle.verdict.specs.Cases.{Case, plain, cases, CaseHolds, EveryCase}
+use Rattle.verdict.specs.Facts.{PassesTo, bound, endBy, searchEnd}
+use Rattle.verdict.specs.Loads.{work, whole, costs, slack, millionths, load}
 use Rattle.verdict.specs.Multiples.{euclid, gcd, lcm, lcmFrom, period}
 use Rattle.verdict.specs.Promise.{Word, Figures, figures, verdictRefusal, SaysBy, Says, VerdictSays}
 use Rattle.verdict.specs.Promise.Word.{fits, misses, refused}
-use Rattle.verdict.proofs.Ends.{end-enough}
+use Rattle.verdict.proofs.Facts.Ends.{end-enough}
 use Rattle.verdict.proofs.Once.{says-unique}
 use Rattle.verdict.proofs.Readable.{readable-in-range}
 
@@ -138,7 +138,7 @@ holds-says c e =
     let says : Says (c .tasks) (c .handlers) (c .sheet) = says-by (c .sheet .word) (c .tasks) (c .handlers) (c .sheet) (same-true (pairs (c .sheet .word) (c .tasks) (c .handlers) (c .sheet)) e) in
     record { holds = says; only = λ r s. says-unique (c .tasks) (c .handlers) (figures r) (c .sheet) s says }
 
--- ---- the twelve
+-- ---- all of them
 
 unfoldable pub allHold : List Case → Bool
 allHold [] = true
@@ -153,7 +153,7 @@ every-case (c ∷ cs) e =
 
 -- The one computation: here the definitions are opened, crate demand's too, since only numbers are left to find.
 all-hold : allHold cases ≡ true
-unfolding allHold holds same pairs short cases searchEnd endBy verdictRefusal tableThen load whole work costs millionths period lcmFrom lcm gcd euclid handled called taken grow due total some rowsOf
+unfolding allHold holds same pairs short plain cases searchEnd bound endBy verdictRefusal tableThen load whole work costs slack millionths period lcmFrom lcm gcd euclid handled called taken grow due total some tasksOf handlersOf
 all-hold = refl
 
 pub cases-hold : EveryCase cases

@@ -3,39 +3,46 @@ use mathlib.Core.List.{List, []}
 use mathlib.Core.Logic.{_⊎_, inl, inr}
 use mathlib.Core.Path.{_≡_, refl}
 use native.Mathlib.Omega.{arith}
-use Prim.Native.Nat.{ℕ, _*_, _≤_, _<_}
-use Rattle.demand.specs.Demands.{handled, Passes, Fails}
+use Prim.Native.Nat.{ℕ, _+_, _*_, _≤_, _<_}
+use Rattle.demand.specs.Demands.{handled, due, Passes, Fails}
 use Rattle.demand.specs.Refusals.{tableThen}
-use Rattle.demand.specs.Rows.{Row, rowsOf, tasksOf, total, some}
+use Rattle.demand.specs.Rows.{Row, tasksOf, handlersOf, total, some}
 use Rattle.demand.proofs.Demands.{called-nil, handled-le-called, passes-or-fails}
-use Rattle.demand.proofs.Sizes.{fair-positive}
-use Rattle.verdict.specs.Cases.{dyeHouse, CaseHolds}
-use Rattle.verdict.specs.Loads.{work, whole, millionths, load}
+use Rattle.verdict.specs.Cases.{plain, dyeHouse, CaseHolds}
+use Rattle.verdict.specs.Loads.{work, whole, slack, millionths, load}
 use Rattle.verdict.specs.Multiples.{euclid, gcd, lcm, lcmFrom, period}
 use Rattle.verdict.specs.Promise.{figures, verdictRefusal, SaysBy, Says, VerdictSays}
 use Rattle.verdict.proofs.Divisors.{period-tasks}
 use Rattle.verdict.proofs.Once.{says-unique}
 use Rattle.verdict.proofs.Readable.{readable-in-range}
-use Rattle.verdict.proofs.Shares.{due-work, work-share}
+use Rattle.verdict.proofs.Facts.Shares.{due-share}
 
 abbrev ts : List Row
 ts = tasksOf (dyeHouse .tasks)
 
 readable : verdictRefusal (dyeHouse .tasks) [] ≡ 0
-unfolding dyeHouse verdictRefusal tableThen period lcmFrom lcm gcd euclid total some rowsOf
+unfolding dyeHouse verdictRefusal tableThen period lcmFrom lcm gcd euclid total some plain tasksOf handlersOf
 readable = refl
 
 -- H, and W one above it
 h-is : period ts [] ≡ 999999000
-unfolding dyeHouse period lcmFrom lcm gcd euclid rowsOf
+unfolding dyeHouse period lcmFrom lcm gcd euclid plain tasksOf
 h-is = refl
 
 w-is : work 999999000 ts ≡ 999999001
-unfolding dyeHouse work total rowsOf
+unfolding dyeHouse work total plain tasksOf
 w-is = refl
 
+slack-is : slack 999999000 ts ≡ 0
+unfolding dyeHouse slack total plain tasksOf
+slack-is = refl
+
+due-is : due ts 999999000 ≡ 999999001
+unfolding dyeHouse due total plain tasksOf
+due-is = refl
+
 load-is : load ts [] ≡ 1000001
-unfolding dyeHouse load whole work millionths period lcmFrom lcm gcd euclid total rowsOf
+unfolding dyeHouse load whole work millionths period lcmFrom lcm gcd euclid total plain tasksOf
 load-is = refl
 
 none : (l : ℕ) → handled [] l ≡ 0
@@ -45,27 +52,27 @@ none l = omega (arith, handled-le-called [] l, called-nil l)
 below : (l : ℕ) → l < 999999000 → Passes ts [] l
 below l short = go (passes-or-fails ts [] l)
   where
-    share : period ts [] * work l ts ≤ l * work (period ts []) ts
-    share = work-share (period ts []) l ts (fair-positive ts (readable-in-range (dyeHouse .tasks) [] readable .tasks)) (period-tasks ts [])
+    share : period ts [] * due ts l ≤ l * work (period ts []) ts + slack (period ts []) ts
+    share = due-share (period ts []) l ts (readable-in-range (dyeHouse .tasks) [] readable .deadlines) (period-tasks ts [])
 
     go : Passes ts [] l ⊎ Fails ts [] l → Passes ts [] l
     go (inl passes) = passes
     go (inr fails) =
-        let known : 999999000 * work l ts ≤ l * 999999001 = rw (h-is, w-is) at share in
-        absurd (omega (arith, known, none l, due-work ts l))
+        let known : 999999000 * due ts l ≤ l * 999999001 + 0 = rw (h-is, w-is, slack-is) at share in
+        absurd (omega (arith, known, none l))
 
 says : Says (dyeHouse .tasks) (dyeHouse .handlers) (dyeHouse .sheet)
-unfolding Says SaysBy dyeHouse rowsOf
+unfolding Says SaysBy dyeHouse handlersOf
 says = record {
   readable = readable;
   shortest = record {
     positive = omega arith;
-    fails = omega (arith, w-is, due-work ts 999999000);
+    fails = omega (arith, due-is);
     least = λ m from less. below m less;
   };
   code = refl;
   handler = omega (arith, none 999999000);
-  task = omega (arith, w-is, due-work ts 999999000);
+  task = omega (arith, due-is);
   load = omega (arith, load-is);
 }
 

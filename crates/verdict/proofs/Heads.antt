@@ -10,47 +10,65 @@ use lib.ListN.{length}
 use Prim.Native.Nat.{ℕ, _+_, _*_, _/_, _≤_, _<_}
 use Rattle.demand.specs.Limits.{figureMost, ticksMost}
 use Rattle.demand.specs.Refusals.{tableRefusal, FairRow}
-use Rattle.demand.specs.Rows.{Row, rowsOf, tasksOf, handlersOf, Each}
+use Rattle.demand.specs.Rows.{Row, rowsOf, width, tasksOf, handlersOf, Each, Sound, Valid}
 use Rattle.demand.specs.Tests.{pick}
 use Rattle.demand.specs.Walk.{rest}
+use Rattle.demand.specs.declared.readable.Kind.{Kind}
 use Rattle.demand.proofs.Sizes.{fair-positive, tasks-valid, handlers-positive}
-use Rattle.demand.proofs.Slices.{rows-short}
+use Rattle.demand.proofs.Slices.{rows-short, from, from-width}
 use Rattle.demand.proofs.Sums.{valid-positive}
-use Rattle.verdict.specs.Loads.{workBy, work, costs}
+use Rattle.verdict.specs.Loads.{workBy, work, costs, slackBy, slack}
 use Rattle.verdict.specs.Multiples.{gcd, lcm, lcmFrom, period, capped}
 use Rattle.verdict.proofs.Divisors.{lcm-from-nil, lcm-from-cons, lcm-from-le, lcm-from-positive, lcm-positive}
-use Rattle.verdict.proofs.Loads.{work-nil, work-cons, costs-nil, costs-cons}
+use Rattle.verdict.proofs.Loads.{work-nil, work-cons, costs-nil, costs-cons, slack-nil, slack-cons}
 
-module _ (s : List ℕ) (h : length s < 2) where
-  pub work-short : (m : ℕ) → work m (rowsOf s) ≡ 0
-  work-short m = rw (rows-short s h) (work-nil m)
+module _ (kind : Kind) (s : List ℕ) (h : length s < width kind) where
+  pub work-short : (m : ℕ) → work m (rowsOf kind s) ≡ 0
+  work-short m = rw (rows-short kind s h) (work-nil m)
 
-  pub costs-short : costs (rowsOf s) ≡ 0
-  costs-short = rw (rows-short s h) costs-nil
+  pub costs-short : costs (rowsOf kind s) ≡ 0
+  costs-short = rw (rows-short kind s h) costs-nil
 
-  pub lcm-short : (a : ℕ) → a ≤ ticksMost → a ≡ capped (lcmFrom a (rowsOf s))
-  lcm-short a most = rw (rows-short s h, lcm-from-nil a, le-ltb ticksMost a most)
+  pub slack-short : (m : ℕ) → slack m (rowsOf kind s) ≡ 0
+  slack-short m = rw (rows-short kind s h) (slack-nil m)
 
-module _ (s : List ℕ) (r : Row) (e : rowsOf s ≡ r ∷ rowsOf (rest s)) where
-  pub work-head : (m x : ℕ) → x ≡ work m (rowsOf (rest s)) → workBy m r + x ≡ work m (rowsOf s)
-  work-head m x q = rw (e, work-cons m r (rowsOf (rest s)), q)
+  pub lcm-short : (a : ℕ) → a ≤ ticksMost → a ≡ capped (lcmFrom a (rowsOf kind s))
+  lcm-short a most = rw (rows-short kind s h, lcm-from-nil a, le-ltb ticksMost a most)
 
-  pub costs-head : (x : ℕ) → x ≡ costs (rowsOf (rest s)) → r .cost + x ≡ costs (rowsOf s)
-  costs-head x q = rw (e, costs-cons r (rowsOf (rest s)), q)
+module _ (kind : Kind) (s : List ℕ) (r : Row) (e : rowsOf kind s ≡ r ∷ rowsOf kind (rest kind s)) where
+  pub work-head : (m x : ℕ) → x ≡ work m (rowsOf kind (rest kind s)) → workBy m r + x ≡ work m (rowsOf kind s)
+  work-head m x q = rw (e, work-cons m r (rowsOf kind (rest kind s)), q)
 
-  pub fair-rest : Each FairRow (rowsOf s) → FairRow r × Each FairRow (rowsOf (rest s))
+  -- the same where the code has the width of a row in hand
+  pub work-step : (n : ℕ) → n ≡ width kind → (m x : ℕ) → x ≡ work m (rowsOf kind (from n s)) → workBy m r + x ≡ work m (rowsOf kind s)
+  work-step n w m x q = work-head m x (q ∙ ap (λ (z : List ℕ). work m (rowsOf kind z)) (from-width kind s n w))
+
+  pub costs-head : (x : ℕ) → x ≡ costs (rowsOf kind (rest kind s)) → r .cost + x ≡ costs (rowsOf kind s)
+  costs-head x q = rw (e, costs-cons r (rowsOf kind (rest kind s)), q)
+
+  pub slack-head : (m x : ℕ) → x ≡ slack m (rowsOf kind (rest kind s)) → slackBy m r + x ≡ slack m (rowsOf kind s)
+  slack-head m x q = rw (e, slack-cons m r (rowsOf kind (rest kind s)), q)
+
+  pub fair-rest : Each FairRow (rowsOf kind s) → FairRow r × Each FairRow (rowsOf kind (rest kind s))
   fair-rest f = rw e at f
 
+  pub sound-rest : Valid (rowsOf kind s) → Sound r × Valid (rowsOf kind (rest kind s))
+  sound-rest v = rw e at v
+
   -- A partial multiple above the limit: the whole is too.
-  pub lcm-over : (a : ℕ) → 0 < a → Each FairRow (rowsOf s) → ticksMost < lcm a (r .period) → 0 ≡ capped (lcmFrom a (rowsOf s))
+  pub lcm-over : (a : ℕ) → 0 < a → Each FairRow (rowsOf kind s) → ticksMost < lcm a (r .period) → 0 ≡ capped (lcmFrom a (rowsOf kind s))
   lcm-over a pos fair over =
       let f = fair-rest fair in
-      let whole : lcm a (r .period) ≤ lcmFrom (lcm a (r .period)) (rowsOf (rest s)) =
-      lcm-from-le (lcm a (r .period)) (rowsOf (rest s)) (lcm-positive a (r .period) pos (f .0 .period .least)) (fair-positive (rowsOf (rest s)) (f .1)) in
-      rw (e, lcm-from-cons a r (rowsOf (rest s)), lt-ltb ticksMost (lcmFrom (lcm a (r .period)) (rowsOf (rest s))) (omega arith))
+      let whole : lcm a (r .period) ≤ lcmFrom (lcm a (r .period)) (rowsOf kind (rest kind s)) =
+      lcm-from-le (lcm a (r .period)) (rowsOf kind (rest kind s)) (lcm-positive a (r .period) pos (f .0 .period .least)) (fair-positive (rowsOf kind (rest kind s)) (f .1)) in
+      rw (e, lcm-from-cons a r (rowsOf kind (rest kind s)), lt-ltb ticksMost (lcmFrom (lcm a (r .period)) (rowsOf kind (rest kind s))) (omega arith))
 
-  pub lcm-on : (a x : ℕ) → x ≡ capped (lcmFrom (lcm a (r .period)) (rowsOf (rest s))) → x ≡ capped (lcmFrom a (rowsOf s))
-  lcm-on a x q = rw (e, lcm-from-cons a r (rowsOf (rest s))) q
+  pub lcm-on : (a x : ℕ) → x ≡ capped (lcmFrom (lcm a (r .period)) (rowsOf kind (rest kind s))) → x ≡ capped (lcmFrom a (rowsOf kind s))
+  lcm-on a x q = rw (e, lcm-from-cons a r (rowsOf kind (rest kind s))) q
+
+  pub lcm-step : (n : ℕ) → n ≡ width kind → (a b x : ℕ) → b ≡ lcm a (r .period) → x ≡ capped (lcmFrom b (rowsOf kind (from n s))) → x ≡ capped (lcmFrom a (rowsOf kind s))
+  lcm-step n w a b x eb q =
+      lcm-on a x (q ∙ ap (λ (z : List ℕ). capped (lcmFrom b (rowsOf kind z))) (from-width kind s n w) ∙ ap (λ (y : ℕ). capped (lcmFrom y (rowsOf kind (rest kind s)))) eb)
 
 -- The partial multiple, as the code makes it: by the divisor in hand. It fits a word.
 pub lcm-read : (a g p : ℕ) → g ≡ gcd a p → a / g * p ≡ lcm a p

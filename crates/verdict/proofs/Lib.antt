@@ -1,10 +1,7 @@
 pub mod Divisors
 pub mod Loads
 pub mod Readable
-pub mod Drain
-pub mod Shares
-pub mod Common
-pub mod Ends
+pub mod Facts
 pub mod Lengths
 pub mod Once
 pub mod UnderLess

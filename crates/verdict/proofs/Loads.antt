@@ -1,7 +1,7 @@
 -- Laws of W, E and the load (specs/Loads): row by row, how great they get, and the load without a long product.
 use mathlib.Core.List.{List, [], _∷_}
 use mathlib.Core.Path.{_≡_, refl, ap, _∙_}
-use native.Mathlib.Nat.{mul-le-mul, mul-le-mul-right, mul-add-div, div-le-self, div-add-mod', div-lt-iff-lt-mul}
+use native.Mathlib.Nat.{mul-le-mul, mul-le-mul-left, mul-le-mul-right, mul-assoc, mul-add-div, div-le-self, div-mul-le-self, div-add-mod', div-lt-iff-lt-mul}
 use native.Mathlib.Omega.{arith}
 use lib.ListN.{length}
 use Prim.Native.Nat.{ℕ, _+_, _-_, _*_, _/_, _%_, _≤_, _<_}
@@ -10,7 +10,7 @@ use Rattle.demand.specs.Refusals.{FairRow}
 use Rattle.demand.specs.Rows.{Row, Each}
 use Rattle.demand.proofs.Divide.{le-ceil-mul}
 use Rattle.demand.proofs.Sums.{each-map, total-most, total-nil, total-cons}
-use Rattle.verdict.specs.Loads.{workBy, work, costs, millionths}
+use Rattle.verdict.specs.Loads.{workBy, work, costs, slackBy, slack, millionths}
 
 -- ---- row by row
 
@@ -30,6 +30,14 @@ pub costs-cons : (r : Row) (rs : List Row) → costs (r ∷ rs) ≡ r .cost + co
 unfolding costs
 costs-cons r rs = total-cons (λ r. r .cost) r rs
 
+pub slack-nil : (m : ℕ) → slack m [] ≡ 0
+unfolding slack
+slack-nil m = total-nil (slackBy m)
+
+pub slack-cons : (m : ℕ) (r : Row) (rs : List Row) → slack m (r ∷ rs) ≡ r .cost * (m / r .period) * (r .period - r .deadline) + slack m rs
+unfolding slack
+slack-cons m r rs = total-cons (slackBy m) r rs
+
 -- ---- how great they get
 
 -- A row whose figures are in range brings at most 1,000,000 for each tick.
@@ -41,6 +49,17 @@ pub work-most : (m n : ℕ) (rs : List Row) → Each FairRow rs → length rs �
 unfolding work
 work-most m n rs fair few =
     omega (arith, total-most (1000000 * m) (workBy m) rs (each-map (work-by-most m) rs fair), mul-le-mul-right (1000000 * m) few)
+
+-- A short deadline adds at most what the row brings: at most 1,000,000 for each tick.
+pub slack-by-most : (m : ℕ) (r : Row) → FairRow r → slackBy m r ≤ 1000000 * m
+slack-by-most m r f =
+    let within : m / r .period * (r .period - r .deadline) ≤ m = omega (arith, div-mul-le-self m (r .period), mul-le-mul-left {m = r .period - r .deadline} {n = r .period} (m / r .period) (omega arith)) in
+    omega (arith, mul-le-mul (f .cost .most) within, mul-assoc (r .cost) (m / r .period) (r .period - r .deadline))
+
+pub slack-most : (m n : ℕ) (rs : List Row) → Each FairRow rs → length rs ≤ n → slack m rs ≤ n * (1000000 * m)
+unfolding slack
+slack-most m n rs fair few =
+    omega (arith, total-most (1000000 * m) (slackBy m) rs (each-map (slack-by-most m) rs fair), mul-le-mul-right (1000000 * m) few)
 
 pub costs-most : (rs : List Row) → Each FairRow rs → costs rs ≤ length rs * 1000000
 unfolding costs

@@ -1,6 +1,7 @@
 -- Answers that meet the promise, from what the code has in hand.
 use mathlib.Core.List.{List}
 use mathlib.Core.Path.{_≡_, refl, sym, subst, _∙_}
+use native.Mathlib.Nat.{mul-le-mul}
 use native.Mathlib.Omega.{arith}
 use Prim.Native.Nat.{ℕ, _+_, _*_, _≤_, _<_}
 use Rattle.demand.specs.Limits.{ticksMost}
@@ -8,17 +9,17 @@ use Rattle.demand.specs.Refusals.{tableRefusal}
 use Rattle.demand.specs.Rows.{Row, tasksOf, handlersOf}
 use Rattle.demand.proofs.Sizes.{tasks-valid, handlers-positive}
 use Rattle.demand.proofs.Sums.{valid-positive}
-use Rattle.verdict.specs.Facts.{PassesTo, FoundAt, FoundSays, endBy, searchEnd}
-use Rattle.verdict.specs.Loads.{work, whole, costs, millionths, load}
+use Rattle.verdict.specs.Facts.{PassesTo, FoundAt, FoundSays, bound, endBy, searchEnd}
+use Rattle.verdict.specs.Loads.{work, whole, costs, slack, millionths, load}
 use Rattle.verdict.specs.Multiples.{period, capped}
 use Rattle.verdict.specs.Promise.{figures, verdictRefusal, SaysBy, Says, VerdictSays}
 use Rattle.verdict.specs.declared.Answer.the-variants as answer
 use Rattle.verdict.specs.declared.search.Found.{Found}
 use Rattle.verdict.specs.declared.search.Found.the-variants as found
 use Rattle.verdict.proofs.Divisors.{period-positive}
-use Rattle.verdict.proofs.Ends.{end-le, end-enough}
+use Rattle.verdict.proofs.Facts.Ends.{end-le, end-enough}
 use Rattle.verdict.proofs.Heads.{capped-zero, capped-some}
-use Rattle.verdict.proofs.Loads.{work-most, costs-most}
+use Rattle.verdict.proofs.Loads.{work-most, costs-most, slack-most}
 use Rattle.verdict.proofs.Readable.{readable-in-range, readable-period, readable-zero, period-small, refused-4, refused-table}
 
 -- ---- W, the load and the end, of the H in hand
@@ -32,9 +33,9 @@ module _ (ts hs : List Row) (h w v : ℕ) (eh : h ≡ period ts hs) (ew : w ≡ 
   unfolding load
   load-read l e = e ∙ rw (whole-read, eh)
 
-  pub end-read : (e n : ℕ) → e ≡ costs hs → n ≡ endBy h (w + v) e → n ≡ searchEnd ts hs
-  unfolding searchEnd
-  end-read e n ee en = en ∙ rw (whole-read, eh, ee)
+  pub end-read : (e s n : ℕ) → e ≡ costs hs → s ≡ slack h ts → n ≡ endBy h (w + v) (e * h + s) → n ≡ searchEnd ts hs
+  unfolding searchEnd bound
+  end-read e s n ee es en = en ∙ rw (whole-read, ee, es, eh)
 
 -- ---- on a readable table they fit
 
@@ -46,10 +47,12 @@ module _ (t h : List ℕ) (readable : verdictRefusal t h ≡ 0) (m : ℕ) (em : 
       let handlers = work-most m 64 (handlersOf h) (small .2 .rows) (small .2 .count) in
       (omega arith, small .0, small .1 .ticks)
 
-  pub costs-fit : (e : ℕ) → e ≡ costs (handlersOf h) → (0 < m) × (m ≤ ticksMost) × (e ≤ 1000000000)
-  costs-fit e ee =
+  -- E times H, and what short deadlines add: each below a million million million.
+  pub bound-fits : (e s : ℕ) → e ≡ costs (handlersOf h) → s ≡ slack m (tasksOf t) → (e * m ≤ 1000000000000000000) × (s ≤ 1000000000000000000)
+  bound-fits e s ee es =
       let small = period-small t h readable m em in
-      (small .0, small .1 .ticks, omega (arith, costs-most (handlersOf h) (small .2 .rows), small .2 .count))
+      let costs : e ≤ 1000000000 = omega (arith, costs-most (handlersOf h) (small .2 .rows), small .2 .count) in
+      (mul-le-mul costs (small .1 .ticks), omega (arith, slack-most m 64 (tasksOf t) (small .1 .rows) (small .1 .count), small .1 .ticks))
 
   pub end-fits : (n : ℕ) → n ≡ searchEnd (tasksOf t) (handlersOf h) → n ≤ ticksMost
   end-fits n en = omega (arith, end-le (tasksOf t) (handlersOf h), readable-period t h readable)

@@ -6,10 +6,9 @@ use native.Mathlib.Omega.{arith}
 use Prim.Native.Nat.{ℕ, zero, suc, _+_, _≤_, _<_}
 use Rattle.demand.specs.Demands.{handled, due, Passes}
 use Rattle.demand.specs.Rows.{Row, Valid}
-use Rattle.demand.specs.Walk.{nextMultiple}
+use Rattle.demand.specs.Walk.{nextDeadline}
 use Rattle.demand.proofs.Demands.{passes-zero}
 use Rattle.demand.proofs.Divide.{le-or-lt}
-use Rattle.demand.proofs.Sums.{valid-positive}
 use Rattle.demand.proofs.Walks.{next-above, passes-walk}
 use Rattle.verdict.specs.Facts.{PassesTo, FoundAt}
 
@@ -22,14 +21,14 @@ module _ (ts hs : List Row) (valid : Valid ts) where
   passes-here zero so-far = passes-zero ts hs valid
   passes-here (suc l) so-far = so-far (suc l) (omega arith) (omega arith)
 
-  module _ (l top n : ℕ) (so-far : PassesTo ts hs l) (next : n ≡ nextMultiple ts l top) where
+  module _ (l top n : ℕ) (so-far : PassesTo ts hs l) (next : n ≡ nextDeadline ts l top) where
     -- Every length before the next test length passes.
     before-next : (x : ℕ) → 1 ≤ x → x < n → Passes ts hs x
     before-next x from h = go (le-or-lt x l)
       where
         go : (x ≤ l) ⊎ (l < x) → Passes ts hs x
         go (inl seen) = so-far x from seen
-        go (inr new) = passes-walk ts hs l top x (valid-positive ts valid) (omega arith) (omega (arith, next)) (passes-here l so-far)
+        go (inr new) = passes-walk ts hs l top x valid (omega arith) (omega (arith, next)) (passes-here l so-far)
 
     -- No test length is left up to end: all has passed.
     pub passes-out : (end : ℕ) → end < n → PassesTo ts hs end
@@ -46,7 +45,7 @@ module _ (ts hs : List Row) (valid : Valid ts) where
     pub fails-first : (end f d : ℕ) → l < top → n ≤ end → f ≡ handled hs n → d ≡ due ts n → n < f + d → FoundAt ts hs end n f d
     fails-first end f d more within ef ed fails = record {
       shortest = record {
-        positive = omega (arith, next-above ts l top (valid-positive ts valid) more, next);
+        positive = omega (arith, next-above ts l top valid more, next);
         fails = omega arith;
         least = before-next;
       };

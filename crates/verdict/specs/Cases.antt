@@ -1,6 +1,6 @@
--- Cases 1 to 12 (01, "Sums done by hand"): one list, one statement.
+-- Cases 1 to 12 (01, "Sums done by hand"), and cases with short deadlines (02, M-101): one list, one statement.
 --   Case              == a table and the figures of its sheet
---   cases             == the twelve
+--   cases             == the twelve, then the short ones
 --   dyeHouse          == the table of M-100, whose load is the first above one million
 --   CaseHolds c       the verdict's promise holds of these figures, and whatever it allows has them
 --   EveryCase cs      each case of the list holds
@@ -28,24 +28,47 @@ refusal code = record { word = refused; code = code; interval = 0; handler = 0; 
 abbrev case : List ℕ → List ℕ → Figures → Case
 case t h g = record { tasks = t; handlers = h; sheet = g }
 
-unfoldable pub cases : List Case
-cases =
-    case (1 ∷ 10 ∷ 1 ∷ 10 ∷ 1 ∷ 10 ∷ 1 ∷ 10 ∷ 1 ∷ 10 ∷ 1 ∷ 10 ∷ 1 ∷ 10 ∷ 1 ∷ 10 ∷ 1 ∷ 10 ∷ 1 ∷ 10 ∷ []) [] (yes 1000000)
-    ∷ case (2 ∷ 4 ∷ []) (1 ∷ 2 ∷ []) (yes 1000000)
-    ∷ case (1 ∷ 4 ∷ []) (2 ∷ 3 ∷ []) (yes 916667)
-    ∷ case (2 ∷ 4 ∷ []) (2 ∷ 3 ∷ []) (no 4 3 2 1166667)
-    ∷ case (1 ∷ 2 ∷ []) (2 ∷ 10 ∷ []) (no 2 2 1 700000)
-    ∷ case (1 ∷ 3 ∷ []) (2 ∷ 10 ∷ []) (yes 533334)
-    ∷ case (2 ∷ 4 ∷ []) (1 ∷ 4 ∷ 1 ∷ 4 ∷ []) (yes 1000000)
-    ∷ case (1 ∷ 1 ∷ []) (1 ∷ 1000000 ∷ []) (no 1 1 1 1000001)
-    ∷ case (2 ∷ 5 ∷ 4 ∷ 8 ∷ []) (1 ∷ 4 ∷ []) (no 10 3 8 1150000)
-    ∷ case (3 ∷ 2 ∷ []) [] (no 2 0 3 1500000)
-    ∷ case (1 ∷ 1000 ∷ 1 ∷ 999999 ∷ []) [] (yes 1002)
-    ∷ case (1 ∷ 1001 ∷ 1 ∷ 1000000 ∷ []) [] (refusal 4)
+-- the same table with three numbers for each task: the deadline is the period
+unfoldable pub plain : List ℕ → List ℕ
+plain [] = []
+plain (c ∷ []) = []
+plain (c ∷ p ∷ t) = c ∷ p ∷ p ∷ plain t
+
+-- Deadlines before the next arrival: half the load and yet two jobs for one tick; the same two tasks with later deadlines;
+-- a length that is no multiple of a period; a length that only the bound with short deadlines admits (5 * 9 is above 1 * 20);
+-- a yes; and refusal 13 with those that come before and after it.
+abbrev short : List Case
+short =
+    case (1 ∷ 4 ∷ 1 ∷ 1 ∷ 4 ∷ 1 ∷ []) [] (no 1 0 2 500000)
+    ∷ case (1 ∷ 4 ∷ 1 ∷ 1 ∷ 4 ∷ 2 ∷ []) [] (yes 500000)
+    ∷ case (2 ∷ 5 ∷ 3 ∷ 2 ∷ 7 ∷ 4 ∷ []) (1 ∷ 10 ∷ []) (no 4 1 4 785715)
+    ∷ case (2 ∷ 10 ∷ 3 ∷ 3 ∷ 10 ∷ 5 ∷ []) (1 ∷ 20 ∷ []) (no 5 1 5 550000)
+    ∷ case (1 ∷ 4 ∷ 2 ∷ 1 ∷ 4 ∷ 3 ∷ []) (1 ∷ 10 ∷ []) (yes 600000)
+    ∷ case (1 ∷ 4 ∷ 0 ∷ []) [] (refusal 13)
+    ∷ case (1 ∷ 4 ∷ 5 ∷ []) [] (refusal 13)
+    ∷ case (0 ∷ 4 ∷ 5 ∷ []) [] (refusal 3)
+    ∷ case (1 ∷ 1001 ∷ 1002 ∷ 1 ∷ 1000000 ∷ 1 ∷ []) [] (refusal 13)
+    ∷ case (1 ∷ 4 ∷ 4 ∷ 1 ∷ []) [] (refusal 1)
     ∷ []
 
+unfoldable pub cases : List Case
+cases =
+    case (plain (1 ∷ 10 ∷ 1 ∷ 10 ∷ 1 ∷ 10 ∷ 1 ∷ 10 ∷ 1 ∷ 10 ∷ 1 ∷ 10 ∷ 1 ∷ 10 ∷ 1 ∷ 10 ∷ 1 ∷ 10 ∷ 1 ∷ 10 ∷ [])) [] (yes 1000000)
+    ∷ case (plain (2 ∷ 4 ∷ [])) (1 ∷ 2 ∷ []) (yes 1000000)
+    ∷ case (plain (1 ∷ 4 ∷ [])) (2 ∷ 3 ∷ []) (yes 916667)
+    ∷ case (plain (2 ∷ 4 ∷ [])) (2 ∷ 3 ∷ []) (no 4 3 2 1166667)
+    ∷ case (plain (1 ∷ 2 ∷ [])) (2 ∷ 10 ∷ []) (no 2 2 1 700000)
+    ∷ case (plain (1 ∷ 3 ∷ [])) (2 ∷ 10 ∷ []) (yes 533334)
+    ∷ case (plain (2 ∷ 4 ∷ [])) (1 ∷ 4 ∷ 1 ∷ 4 ∷ []) (yes 1000000)
+    ∷ case (plain (1 ∷ 1 ∷ [])) (1 ∷ 1000000 ∷ []) (no 1 1 1 1000001)
+    ∷ case (plain (2 ∷ 5 ∷ 4 ∷ 8 ∷ [])) (1 ∷ 4 ∷ []) (no 10 3 8 1150000)
+    ∷ case (plain (3 ∷ 2 ∷ [])) [] (no 2 0 3 1500000)
+    ∷ case (plain (1 ∷ 1000 ∷ 1 ∷ 999999 ∷ [])) [] (yes 1002)
+    ∷ case (plain (1 ∷ 1001 ∷ 1 ∷ 1000000 ∷ [])) [] (refusal 4)
+    ∷ short
+
 unfoldable pub dyeHouse : Case
-dyeHouse = case (999 ∷ 1000 ∷ 1000 ∷ 999999 ∷ []) [] (no 999999000 0 999999001 1000001)
+dyeHouse = case (plain (999 ∷ 1000 ∷ 1000 ∷ 999999 ∷ [])) [] (no 999999000 0 999999001 1000001)
 
 pub record CaseHolds (c : Case) : Type 0 where
   pub holds : Says (c .tasks) (c .handlers) (c .sheet)

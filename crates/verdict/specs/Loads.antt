@@ -1,10 +1,11 @@
--- W, E and the load (01, "The verdict").
+-- W, E, what short deadlines add, and the load (01, "The verdict"; 02, M-100 and M-101).
 --   work m rs     == the sum of cost times (m / period) over rs
 --   whole ts hs   == W, the work of all rows over H ticks
 --   costs hs      == E, the sum of handler costs
---   load ts hs    == 1,000,000 times W / H, rounded up (M-100)
+--   slack m ts    == the sum of cost, m / period and (period - deadline) multiplied, over ts
+--   load ts hs    == 1,000,000 times W / H, rounded up
 use mathlib.Core.List.{List}
-use Prim.Native.Nat.{ℕ, _+_, _*_, _/_}
+use Prim.Native.Nat.{ℕ, _+_, _-_, _*_, _/_}
 use Rattle.demand.specs.Demands.{ceil}
 use Rattle.demand.specs.Rows.{Row, total}
 use Rattle.verdict.specs.Multiples.{period}
@@ -21,6 +22,13 @@ whole ts hs = work (period ts hs) ts + work (period ts hs) hs
 
 unfoldable pub costs : List Row → ℕ
 costs hs = total (λ r. r .cost) hs
+
+-- what one task's short deadline adds: nothing where it is the period
+abbrev pub slackBy : ℕ → Row → ℕ
+slackBy m r = r .cost * (m / r .period) * (r .period - r .deadline)
+
+unfoldable pub slack : ℕ → List Row → ℕ
+slack m ts = total (slackBy m) ts
 
 -- w / h in millionths, rounded up: a load never looks lighter than it is
 unfoldable pub millionths : ℕ → ℕ → ℕ

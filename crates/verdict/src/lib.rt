@@ -7,6 +7,7 @@ ghost use mathlib.Core.Path.{_≡_};
 ghost use Rattle.verdict.specs.Multiples.{period};
 ghost use Rattle.verdict.specs.Promise.{verdictRefusal, VerdictSays};
 ghost use Rattle.demand.specs.Rows.{tasksOf, handlersOf};
+use demand::readable::Kind;
 use search::Found;
 
 // Fits, misses at the shortest interval that fails with both demands there, or the number of the refusal.
@@ -45,9 +46,10 @@ fn judged(tasks: &[u32], handlers: &[u32], h: u64) -> Answer
     requires { ⌜ (verdictRefusal (now tasks) (now handlers) ≡ 0) × (h ≡ period (tasksOf (now tasks)) (handlersOf (now handlers))) ⌝ }
     ensures { λ r. ⌜ VerdictSays (now (tasks .entry)) (now (handlers .entry)) r ⌝ }
 {
-    let w = load::work(tasks, h) + load::work(handlers, h);
+    let w = load::work(Kind::Task, tasks, h) + load::work(Kind::Handler, handlers, h);
     let load = load::of_work(w, h);
-    let end = search::end_of(h, w, load::costs(handlers));
+    let bound = load::costs(handlers) * h + load::slack(tasks, h);
+    let end = search::end_of(h, w, bound);
     let found = search::first_failing(tasks, handlers, end);
     match found {
         Found::At {

@@ -1,36 +1,51 @@
-// W, E and the load.
+// W, E, what short deadlines add, and the load.
 ghost use mathlib.Core.Path.{_≡_};
 ghost use Prim.Native.Nat.{_*_, _<_, _≤_};
 ghost use Rattle.demand.specs.Limits.{ticksMost};
-ghost use Rattle.demand.specs.Rows.{rowsOf};
+ghost use Rattle.demand.specs.Rows.{rowsOf, tasksOf, handlersOf, Valid};
 ghost use Rattle.demand.specs.Walk.{Small};
-ghost use Rattle.verdict.specs.Loads.{work, costs, millionths};
+ghost use Rattle.verdict.specs.Loads.{work, costs, slack, millionths};
 use demand::readable;
+use demand::readable::Kind;
 
 // The work that the rows of s bring in h ticks, for whole periods.
-pub fn work(s: &[u32], h: u64) -> u64
-    requires { ⌜ Small (rowsOf (now s)) h ⌝ }
-    ensures { λ r. ⌜ r ≡ work h (rowsOf (now (s .entry))) ⌝ }
+pub fn work(kind: Kind, s: &[u32], h: u64) -> u64
+    requires { ⌜ Small (rowsOf kind (now s)) h ⌝ }
+    ensures { λ r. ⌜ r ≡ work h (rowsOf kind (now (s .entry))) ⌝ }
 {
-    if s.len() < 2 {
+    let own = readable::width(kind);
+    if s.len() < own {
         return 0;
     }
-    let row = readable::head(s);
-    let rest = work(&s[2..], h);
+    let row = readable::head(kind, s);
+    let rest = work(kind, &s[own..], h);
     row.cost * (h / row.period) + rest
 }
 
-// The sum of the costs of s.
-pub fn costs(s: &[u32]) -> u64
-    requires { ⌜ Small (rowsOf (now s)) 0 ⌝ }
-    ensures { λ r. ⌜ r ≡ costs (rowsOf (now (s .entry))) ⌝ }
+// The sum of handler costs.
+pub fn costs(handlers: &[u32]) -> u64
+    requires { ⌜ Small (handlersOf (now handlers)) 0 ⌝ }
+    ensures { λ r. ⌜ r ≡ costs (handlersOf (now (handlers .entry))) ⌝ }
 {
-    if s.len() < 2 {
+    if handlers.len() < 2 {
         return 0;
     }
-    let row = readable::head(s);
-    let rest = costs(&s[2..]);
-    row.cost + rest
+    let handler = readable::head(Kind::Handler, handlers);
+    let rest = costs(&handlers[2..]);
+    handler.cost + rest
+}
+
+// What short deadlines add in h ticks.
+pub fn slack(tasks: &[u32], h: u64) -> u64
+    requires { ⌜ Small (tasksOf (now tasks)) h × Valid (tasksOf (now tasks)) ⌝ }
+    ensures { λ r. ⌜ r ≡ slack h (tasksOf (now (tasks .entry))) ⌝ }
+{
+    if tasks.len() < 3 {
+        return 0;
+    }
+    let task = readable::head(Kind::Task, tasks);
+    let rest = slack(&tasks[3..], h);
+    task.cost * (h / task.period) * (task.period - task.deadline) + rest
 }
 
 // 1,000,000 times w / h, rounded up: the whole part and the rest apart, so that nothing overflows.

@@ -6,6 +6,7 @@ ghost use Rattle.demand.specs.Refusals.{tableRefusal, FairRow};
 ghost use Rattle.demand.specs.Rows.{rowsOf, tasksOf, handlersOf, Each};
 ghost use Rattle.verdict.specs.Multiples.{gcd, lcmFrom, period, capped};
 use demand::readable;
+use demand::readable::Kind;
 use demand::refusal::TICKS_MOST;
 
 // The greatest common divisor: Euclid's rule, whose second number falls.
@@ -16,19 +17,20 @@ fn gcd(a: u64, b: u64) -> u64
 }
 
 // The least common multiple of a and the periods of s; a partial one above the limit ends it.
-fn lcm_from(s: &[u32], a: u64) -> u64
-    requires { ⌜ Each FairRow (rowsOf (now s)) × (0 < a) × (a ≤ ticksMost) ⌝ }
-    ensures { λ r. ⌜ r ≡ capped (lcmFrom a (rowsOf (now (s .entry)))) ⌝ }
+fn lcm_from(kind: Kind, s: &[u32], a: u64) -> u64
+    requires { ⌜ Each FairRow (rowsOf kind (now s)) × (0 < a) × (a ≤ ticksMost) ⌝ }
+    ensures { λ r. ⌜ r ≡ capped (lcmFrom a (rowsOf kind (now (s .entry)))) ⌝ }
 {
-    if s.len() < 2 {
+    let own = readable::width(kind);
+    if s.len() < own {
         return a;
     }
-    let row = readable::head(s);
+    let row = readable::head(kind, s);
     let m = a / gcd(a, row.period) * row.period;
     if TICKS_MOST < m {
         return 0;
     }
-    lcm_from(&s[2..], m)
+    lcm_from(kind, &s[own..], m)
 }
 
 // H of a table whose rows are in range.
@@ -36,9 +38,9 @@ pub fn of_table(tasks: &[u32], handlers: &[u32]) -> u64
     requires { ⌜ tableRefusal (now tasks) (now handlers) ≡ 0 ⌝ }
     ensures { λ r. ⌜ r ≡ capped (period (tasksOf (now (tasks .entry))) (handlersOf (now (handlers .entry)))) ⌝ }
 {
-    let a = lcm_from(tasks, 1);
+    let a = lcm_from(Kind::Task, tasks, 1);
     if a == 0 {
         return 0;
     }
-    lcm_from(handlers, a)
+    lcm_from(Kind::Handler, handlers, a)
 }

@@ -1,6 +1,6 @@
 // The search for the shortest interval that fails: test lengths only, in increasing order, f carried along.
 ghost use mathlib.Core.Path.{_≡_};
-ghost use Prim.Native.Nat.{_*_, _≤_, _<_};
+ghost use Prim.Native.Nat.{_≤_};
 ghost use Rattle.demand.specs.Limits.{ticksMost};
 ghost use Rattle.demand.specs.Refusals.{tableRefusal};
 ghost use Rattle.demand.specs.Rows.{tasksOf, handlersOf};
@@ -17,21 +17,20 @@ pub enum Found {
     Nothing,
 }
 
-// The smallest end that the facts about H, W and E allow.
-pub fn end_of(h: u64, w: u64, e: u64) -> u64
-    requires { ⌜ (0 < h) × (h ≤ ticksMost) × (e ≤ 1000000000) ⌝ }
-    ensures { λ r. ⌜ r ≡ endBy h w e ⌝ }
+// The smallest end that the facts about H, W and the bound allow.
+pub fn end_of(h: u64, w: u64, bound: u64) -> u64
+    ensures { λ r. ⌜ r ≡ endBy h w bound ⌝ }
 {
     if h < w {
         return h;
     }
-    if e == 0 {
+    if bound == 0 {
         return 0;
     }
     if w == h {
         return h;
     }
-    let last = (e * h - 1) / (h - w);
+    let last = (bound - 1) / (h - w);
     if last < h { last } else { h }
 }
 

@@ -45,94 +45,175 @@ fn cases() {
         &[
             1,
             10,
-            1,
             10,
             1,
             10,
-            1,
             10,
             1,
             10,
-            1,
             10,
             1,
             10,
-            1,
             10,
             1,
             10,
+            10,
             1,
+            10,
+            10,
+            1,
+            10,
+            10,
+            1,
+            10,
+            10,
+            1,
+            10,
+            10,
+            1,
+            10,
             10,
         ],
         &[],
     );
-    judge(b"case 2", &[2, 4], &[1, 2]);
-    judge(b"case 3", &[1, 4], &[2, 3]);
-    judge(b"case 4", &[2, 4], &[2, 3]);
-    judge(b"case 5", &[1, 2], &[2, 10]);
-    judge(b"case 6", &[1, 3], &[2, 10]);
-    judge(b"case 7", &[2, 4], &[1, 4, 1, 4]);
-    judge(b"case 8", &[1, 1], &[1, 1000000]);
-    judge(b"case 9", &[2, 5, 4, 8], &[1, 4]);
-    judge(b"case 10", &[3, 2], &[]);
-    judge(b"case 11", &[1, 1000, 1, 999999], &[]);
-    judge(b"case 12", &[1, 1001, 1, 1000000], &[]);
+    judge(b"case 2", &[2, 4, 4], &[1, 2]);
+    judge(b"case 3", &[1, 4, 4], &[2, 3]);
+    judge(b"case 4", &[2, 4, 4], &[2, 3]);
+    judge(b"case 5", &[1, 2, 2], &[2, 10]);
+    judge(b"case 6", &[1, 3, 3], &[2, 10]);
+    judge(b"case 7", &[2, 4, 4], &[1, 4, 1, 4]);
+    judge(b"case 8", &[1, 1, 1], &[1, 1000000]);
+    judge(b"case 9", &[2, 5, 5, 4, 8, 8], &[1, 4]);
+    judge(b"case 10", &[3, 2, 2], &[]);
+    judge(b"case 11", &[1, 1000, 1000, 1, 999999, 999999], &[]);
+    judge(b"case 12", &[1, 1001, 1001, 1, 1000000, 1000000], &[]);
 }
 
-// 64 rows, all alike.
-fn alike(cost: u32, period: u32) -> [u32; 128] {
-    let mut rows = [cost; 128];
+// 64 tasks, all alike.
+fn tasks_alike(cost: u32, period: u32, deadline: u32) -> [u32; 192] {
+    let mut rows = [cost; 192];
+    let mut i = 0;
+    while i + 2 < 192 {
+        rows[i + 1] = period;
+        rows[i + 2] = deadline;
+        i += 3;
+    }
+    rows
+}
+
+// 16 handlers, all alike.
+fn handlers_alike(cost: u32, period: u32) -> [u32; 32] {
+    let mut rows = [cost; 32];
     let mut i = 1;
-    while i < 128 {
+    while i < 32 {
         rows[i] = period;
         i += 2;
     }
     rows
 }
 
-// 64 tasks, and the first 16 of the other rows as handlers.
-fn judge_many(what: &[u8], tasks: [u32; 128], others: [u32; 128]) {
-    judge(what, &tasks, &others[..32]);
+// Every row that a table may have.
+fn judge_many(what: &[u8], tasks: [u32; 192], handlers: [u32; 32]) {
+    judge(what, &tasks, &handlers);
 }
 
-// W equal to H, H near its limit, and every row that a table may have.
+// Deadlines before the next arrival: the cases of the list in the verdict's statements, and both ends of the range.
+fn short_deadlines() {
+    judge(b"two jobs for one tick", &[1, 4, 1, 1, 4, 1], &[]);
+    judge(b"a tick each", &[1, 4, 1, 1, 4, 2], &[]);
+    judge(b"no multiple of a period", &[2, 5, 3, 2, 7, 4], &[1, 10]);
+    judge(
+        b"only the new bound admits it",
+        &[2, 10, 3, 3, 10, 5],
+        &[1, 20],
+    );
+    judge(b"short and in time", &[1, 4, 2, 1, 4, 3], &[1, 10]);
+    judge(b"deadline 0", &[1, 4, 0], &[]);
+    judge(b"deadline above its period", &[1, 4, 5], &[]);
+    judge(b"3 before 13", &[0, 4, 5], &[]);
+    judge(b"13 before 4", &[1, 1001, 1002, 1, 1000000, 1], &[]);
+    judge(
+        b"full, one deadline a tick short",
+        &[500, 1000, 999, 500000, 1000000, 1000000],
+        &[],
+    );
+    judge(b"far apart and at once", &[1, 1000000, 1, 1, 999, 2], &[]);
+}
+
+// W equal to H, and H near its limit.
 fn hostile() {
-    judge(b"above full by one", &[999, 1000, 1000, 999999], &[]);
-    judge(b"full, no handlers", &[500, 1000, 500000, 1000000], &[]);
+    judge(
+        b"above full by one",
+        &[999, 1000, 1000, 1000, 999999, 999999],
+        &[],
+    );
+    judge(
+        b"full, no handlers",
+        &[500, 1000, 1000, 500000, 1000000, 1000000],
+        &[],
+    );
     judge(
         b"full, long period",
-        &[1, 1000],
+        &[1, 1000, 1000],
         &[998000, 1000000, 1000, 1000000],
     );
     judge(
         b"full, handlers spread",
-        &[199999, 1000000],
+        &[199999, 1000000, 1000000],
         &[1, 5, 3, 5, 1, 1000000],
     );
-    judge(b"H near its limit", &[300, 1000, 300, 999], &[390, 1001]);
+    judge(
+        b"H near its limit",
+        &[300, 1000, 1000, 300, 999, 999],
+        &[390, 1001],
+    );
     judge(
         b"H above its limit by the handlers",
-        &[1, 1000000],
+        &[1, 1000000, 1000000],
         &[1, 999999],
     );
-    judge(b"light and late", &[1000, 1000000, 1, 999], &[999, 1000000]);
+    judge(
+        b"light and late",
+        &[1000, 1000000, 1000000, 1, 999, 999],
+        &[999, 1000000],
+    );
+}
+
+// Every row that a table may have, and tables that have none.
+fn most_and_least() {
     judge_many(
         b"64 and 16, light",
-        alike(1000, 1000000),
-        alike(1000, 500000),
+        tasks_alike(1000, 1000000, 1000000),
+        handlers_alike(1000, 500000),
     );
     judge_many(
         b"64 and 16, full",
-        alike(10000, 1000000),
-        alike(22500, 1000000),
+        tasks_alike(10000, 1000000, 1000000),
+        handlers_alike(22500, 1000000),
     );
-    judge_many(b"64 and 16, overfull", alike(1000000, 1), alike(1000000, 1));
-    judge(b"odd tasks", &[1, 2, 3], &[]);
+    judge_many(
+        b"64 and 16, light and just in time",
+        tasks_alike(1000, 1000000, 80000),
+        handlers_alike(1000, 500000),
+    );
+    judge_many(
+        b"64 and 16, light and a tick too short",
+        tasks_alike(1000, 1000000, 79999),
+        handlers_alike(1000, 500000),
+    );
+    judge_many(
+        b"64 and 16, overfull",
+        tasks_alike(1000000, 1, 1),
+        handlers_alike(1000000, 1),
+    );
+    judge(b"tasks not in threes", &[1, 2, 2, 3], &[]);
     judge(b"no task", &[], &[1, 1]);
-    judge(b"period 0", &[1, 0], &[]);
+    judge(b"period 0", &[1, 0, 0], &[]);
 }
 
 fn main() {
     cases();
+    short_deadlines();
     hostile();
+    most_and_least();
 }

@@ -10,7 +10,8 @@ use Prim.Native.Nat.{ℕ, _<_}
 use Rattle.scheduler.specs.Guarantees.{Accepted}
 use Rattle.scheduler.specs.Machine.{Live, owedAll, pick, givenBy, tickBy, OnTime}
 use Rattle.scheduler.specs.Reached.{Sound}
-use Rattle.scheduler.specs.Runs.{dueIn, taskRows, handlerRows}
+use Rattle.scheduler.specs.Runs.{taskRows, handlerRows}
+use Rattle.scheduler.specs.Scans.{at}
 use Rattle.scheduler.specs.Steps.{stepRefusal, stepBy}
 use Rattle.scheduler.specs.Tick.{keyWith, goesTo, lateRow, isTask, tickedBy}
 use Rattle.scheduler.specs.View.{viewOf, offerOf}
@@ -20,7 +21,7 @@ use Rattle.scheduler.specs.declared.Stepped.{Stepped}
 use Rattle.scheduler.proofs.Steps.Answers.{Passed, passed, step-ticks, step-refused}
 use Rattle.scheduler.proofs.Steps.Goes.{goes-to}
 use Rattle.scheduler.proofs.Reached.InBounds.{step-in-bounds}
-use Rattle.scheduler.proofs.Reached.KeepsBounds.{nextNow, owedNow, owed-length}
+use Rattle.scheduler.proofs.Reached.KeepsBounds.{nextNow, dueNow, due-length, owedNow, owed-length}
 use Rattle.scheduler.proofs.Join.ViewArrives.{next-length, tasks-arrive, handlers-arrive}
 use Rattle.scheduler.proofs.Join.ViewLate.{named-not-on-time, nobody-on-time}
 use Rattle.scheduler.proofs.Join.ViewServes.{goes-view}
@@ -43,10 +44,11 @@ module _ (key : Live → ℕ) (r : Run) (ws : List ℕ) where
   unfolding tickedBy tickBy taskRows handlerRows
   ticked-view s p =
       let next = nextNow r ws (s .shaped) p in
+      let due = dueNow r ws (s .shaped) p in
       let owed = owedNow r ws (s .shaped) p in
-      let key-at : ℕ → ℕ = keyWith key r next owed in
+      let key-at : ℕ → ℕ = keyWith key r next due owed in
       let ran : Ran = goesTo key-at owed (r .«task_count») (r .«handler_count») in
-      goes-view key r s next owed (next-length r ws s p) (owed-length r ws (s .shaped) p) ran (goes-to key-at owed (r .«task_count») (r .«handler_count»))
+      goes-view key r s next due owed (next-length r ws s p) (due-length r ws (s .shaped) p) (owed-length r ws (s .shaped) p) ran (goes-to key-at owed (r .«task_count») (r .«handler_count»))
       ∙ ap₂ (λ (ts hs : List Live). givenBy (pick key) (owedAll hs) (r .clock) ts hs) (sym (tasks-arrive r ws s p)) (sym (handlers-arrive r ws s p))
 
   -- The table stays, of a refused step too.
@@ -77,11 +79,11 @@ module _ (key : Live → ℕ) (r : Run) (ws : List ℕ) where
     step-view = ap (λ (x : Stepped). viewOf (x .run)) (step-ticks key r ws a) ∙ ticked-view s (passed r ws a)
 
     -- The late row is the first task owed work at its deadline, and the run is over where there is one.
-    pub step-late : stepBy key r ws .run .late ≡ lateRow (stepBy key r ws .run .clock) (dueIn (stepBy key r ws .run)) (stepBy key r ws .run .owed) (stepBy key r ws .run .«task_count»)
+    pub step-late : stepBy key r ws .run .late ≡ lateRow (stepBy key r ws .run .clock) (at (stepBy key r ws .run .due)) (stepBy key r ws .run .owed) (stepBy key r ws .run .«task_count»)
     unfolding tickedBy
     step-late = rw (step-ticks key r ws a)
 
-    step-over : after .over ≡ isTask (lateRow (after .clock) (dueIn after) (after .owed) (after .«task_count»))
+    step-over : after .over ≡ isTask (lateRow (after .clock) (at (after .due)) (after .owed) (after .«task_count»))
     unfolding tickedBy
     step-over =
         let e = step-ticks key r ws a in

@@ -9,7 +9,7 @@ use Rattle.demand.proofs.Sizes.{tasks-valid, handlers-positive}
 use Rattle.demand.specs.Limits.{ticksMost}
 use Rattle.demand.specs.Refusals.{tableRefusal, InRange}
 use Rattle.demand.specs.Rows.{Row, Positive, Valid, tasksOf, handlersOf}
-use Rattle.verdict.proofs.Ends.{end-enough, end-le}
+use Rattle.verdict.proofs.Facts.Ends.{end-enough, end-le}
 use Rattle.verdict.proofs.Lengths.{fits-never-fails}
 use Rattle.verdict.proofs.Readable.{readable-in-range, readable-period, readable-table}
 use Rattle.verdict.specs.Multiples.{period}

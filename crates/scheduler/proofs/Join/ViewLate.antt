@@ -2,17 +2,16 @@
 use mathlib.Core.Bool.{Bool, true, false, _&&_, false≢true}
 use mathlib.Core.List.{List}
 use mathlib.Core.Path.{_≡_, refl, sym, ap, _∙_}
-use native.Mathlib.Nat.{zero-add}
 use native.Mathlib.Omega.{arith}
 use borrow.Author.Tests.{ltb-true, ltb-false, eqb-true}
 use Prim.Native.Nat.{ℕ, _<_}
 use lib.Dec.{ltb, eqb}
 use lib.ListN.{getD}
-use Rattle.demand.specs.Rows.{rowAt}
 use Rattle.scheduler.specs.Machine.{OnTime}
-use Rattle.scheduler.specs.Places.{Fits, dueAt}
+use Rattle.scheduler.specs.Places.{Fits}
 use Rattle.scheduler.specs.Reached.{Sound}
-use Rattle.scheduler.specs.Runs.{rowIn, dueIn, taskRows}
+use Rattle.scheduler.specs.Runs.{taskRows}
+use Rattle.scheduler.specs.Scans.{at}
 use Rattle.scheduler.specs.Tick.{isLate, lateRow, isTask}
 use Rattle.scheduler.specs.View.{part, viewOf}
 use Rattle.scheduler.specs.declared.Late.the-variants as late
@@ -24,6 +23,7 @@ use Rattle.scheduler.proofs.Join.Parts.{front-at}
 use Rattle.scheduler.proofs.Steps.Scan.{first-none, Found, find}
 use Rattle.scheduler.proofs.Steps.Scan.Found.{nowhere, first}
 use Rattle.scheduler.proofs.Join.View.{rows-fit, task-rows}
+use Rattle.scheduler.proofs.Join.ViewArrives.{tasks-due}
 
 both : (a b : Bool) → (a && b) ≡ true → (a ≡ true) × (b ≡ true)
 both true b e = (refl, e)
@@ -50,28 +50,22 @@ module _ (r : Run) (s : Sound r) (t : ℕ) where
   abbrev n : ℕ
   n = r .«task_count»
 
-  fits : Fits (taskRows r) (part 0 n (r .next)) (part 0 n (r .owed))
-  fits = rows-fit (task-rows r s) (r .next) (r .owed) (s .shaped .next-80) (s .shaped .owed-80)
+  fits : Fits (taskRows r) (part 0 n (r .next)) (part 0 n (r .due)) (part 0 n (r .owed))
+  fits = rows-fit (task-rows r s) (r .next) (part 0 n (r .due)) (r .owed) (s .shaped .next-80) (tasks-due r s) (s .shaped .owed-80)
 
-  -- The deadline at a place is that of the row at work there.
-  task-due : (j : ℕ) → j < n → dueAt (taskRows r) (part 0 n (r .next)) j ≡ dueIn r j
-  task-due j l =
-      let row : rowAt (taskRows r) j ≡ rowIn r j = task-rows r s .row-at j l ∙ ap (rowIn r) (zero-add j) in
-      rw (row, front-at n (r .next) j l)
-
-  pub named-not-on-time : isTask (lateRow t (dueIn r) (r .owed) n) ≡ true → ¬ OnTime t (viewOf r .tasks)
+  pub named-not-on-time : isTask (lateRow t (at (r .due)) (r .owed) n) ≡ true → ¬ OnTime t (viewOf r .tasks)
   named-not-on-time e on =
-      let x = named-late t (dueIn r) (r .owed) n e in
-      let none = on-time-flat t (taskRows r) (part 0 n (r .next)) (part 0 n (r .owed)) fits on (x .row) (omega (arith, x .within, task-rows r s .count)) (task-due (x .row) (x .within) ∙ x .now) in
+      let x = named-late t (at (r .due)) (r .owed) n e in
+      let none = on-time-flat t (taskRows r) (part 0 n (r .next)) (part 0 n (r .due)) (part 0 n (r .owed)) fits on (x .row) (omega (arith, x .within, task-rows r s .count)) (front-at n (r .due) (x .row) (x .within) ∙ x .now) in
       omega (arith, x .work, front-at n (r .owed) (x .row) (x .within))
 
-  pub nobody-on-time : isTask (lateRow t (dueIn r) (r .owed) n) ≡ false → OnTime t (viewOf r .tasks)
+  pub nobody-on-time : isTask (lateRow t (at (r .due)) (r .owed) n) ≡ false → OnTime t (viewOf r .tasks)
   nobody-on-time e =
-      flat-on-time t (taskRows r) (part 0 n (r .next)) (part 0 n (r .owed))
+      flat-on-time t (taskRows r) (part 0 n (r .next)) (part 0 n (r .due)) (part 0 n (r .owed))
       (λ j l now.
       let below : j < n = omega (arith, task-rows r s .count) in
-      front-at n (r .owed) j below ∙ none j below (sym (task-due j below) ∙ now) (ltb 0 (getD (r .owed) j 0)) refl)
+      front-at n (r .owed) j below ∙ none j below (sym (front-at n (r .due) j below) ∙ now) (ltb 0 (getD (r .owed) j 0)) refl)
     where
-      none : (j : ℕ) → j < n → dueIn r j ≡ t → (b : Bool) → ltb 0 (getD (r .owed) j 0) ≡ b → getD (r .owed) j 0 ≡ 0
-      none j l now true q = absurd (nobody-late t (dueIn r) (r .owed) n j e l (ltb-true _ _ q) now)
+      none : (j : ℕ) → j < n → getD (r .due) j 0 ≡ t → (b : Bool) → ltb 0 (getD (r .owed) j 0) ≡ b → getD (r .owed) j 0 ≡ 0
+      none j l now true q = absurd (nobody-late t (at (r .due)) (r .owed) n j e l (ltb-true _ _ q) now)
       none j l now false q = omega (arith, ltb-false 0 (getD (r .owed) j 0) q)

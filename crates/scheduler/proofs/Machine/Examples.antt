@@ -12,10 +12,10 @@ use Rattle.scheduler.proofs.Machine.Invariant.{on-time}
 
 -- Tasks 2/5 and 4/8, handler 1/4.
 tasks : List Row
-tasks = record { cost = 2; period = 5 } ∷ record { cost = 4; period = 8 } ∷ []
+tasks = record { cost = 2; period = 5; deadline = 5 } ∷ record { cost = 4; period = 8; deadline = 8 } ∷ []
 
 handlers : List Row
-handlers = record { cost = 1; period = 4 } ∷ []
+handlers = record { cost = 1; period = 4; deadline = 4 } ∷ []
 
 -- What each row is owed, at n clocks from c on.
 owedOf : List Live → List ℕ
@@ -68,7 +68,7 @@ on-time-9 n h = on-time n (sync n tasks handlers .tasks) (none-overdue 10 overdu
 
 -- At clock 10 task 0 is owed 1, and its deadline is there: it is late.
 task-0 : Live
-task-0 = record { row = record { cost = 2; period = 5 }; next = 10; owed = 1 }
+task-0 = record { row = record { cost = 2; period = 5; deadline = 5 }; next = 10; due = 10; owed = 1 }
 
 due-10 : dueOf task-0 ≡ 10
 unfolding task-0
@@ -77,8 +77,8 @@ due-10 = refl
 state-10 : sync 10 tasks handlers
     ≡ record {
       clock = 10;
-      tasks = task-0 ∷ record { row = record { cost = 4; period = 8 }; next = 16; owed = 4 } ∷ [];
-      handlers = record { row = record { cost = 1; period = 4 }; next = 12; owed = 0 } ∷ [];
+      tasks = task-0 ∷ record { row = record { cost = 4; period = 8; deadline = 8 }; next = 16; due = 16; owed = 4 } ∷ [];
+      handlers = record { row = record { cost = 1; period = 4; deadline = 4 }; next = 12; due = 12; owed = 0 } ∷ [];
     }
 unfolding task-0 tasks handlers syncBy tickBy beats idle arriveAll owedAll beforeBy serve pick
 state-10 = refl

@@ -9,10 +9,11 @@ use native.Mathlib.Nat.{mul-zero, mul-suc, mul-le-mul-left, div-eq-of-lt-le}
 use native.Mathlib.Omega.{arith}
 use Prim.Native.Nat.{ℕ, zero, suc, _+_, _-_, _≤_, _<_}
 use Rattle.demand.specs.Demands.{ceil}
-use Rattle.demand.specs.Rows.{Row, deadlineOf, Positive, Sound, Valid}
+use Rattle.demand.specs.Rows.{Row, Positive, Sound, Valid}
 use Rattle.demand.proofs.Divide.{jobs, le-or-lt, jobs-arrive, jobs-none, ceil-mono, ceil-sub}
 use Rattle.scheduler.specs.Machine.{Live, dueOf, tableOf, idle, arrive, Legal, arriveAll, LegalAll, share, beforeBy, before, OnTime}
 use Rattle.scheduler.specs.Schedules.{Ran, ran-none, ran-here, ran-later}
+use Rattle.scheduler.proofs.Machine.Ordered.{Ordered}
 use Rattle.scheduler.proofs.Machine.Room.{future, callable, dueIn, calls, share-in, share-out}
 
 unfoldable pub full : ℕ → List Live → List ℕ
@@ -103,16 +104,16 @@ settled-before t (x ∷ xs) settled = go (le-or-lt (suc t) (dueOf x)) (settled-b
 -- ---- nothing is lost
 
 -- Nothing that a task can have due is lost by its full arrival on time.
-task-full : (t k w : ℕ) (x : Live) → Sound (x .row) → (dueOf x ≤ t → x .owed ≡ 0) → share (suc t - x .next) (x .row .cost) ≡ w
+task-full : (t k w : ℕ) (x : Live) → Sound (x .row) → x .due ≤ x .next → (dueOf x ≤ t → x .owed ≡ 0) → share (suc t - x .next) (x .row .cost) ≡ w
     → dueIn t k x ≤ dueIn t k (arrive t w x)
-task-full t k zero x sound settled e = omega arith
-task-full t k (suc w) x sound settled e = go (le-or-lt d k)
+task-full t k zero x sound ordered settled e = omega arith
+task-full t k (suc w) x sound ordered settled e = go (le-or-lt d k)
   where
     p : ℕ
     p = x .row .period
 
     d : ℕ
-    d = deadlineOf (x .row)
+    d = x .row .deadline
 
     c : ℕ
     c = x .row .cost
@@ -121,7 +122,7 @@ task-full t k (suc w) x sound settled e = go (le-or-lt d k)
     some = full-some t (x .next) c w e
 
     was : share (suc (t + k) - dueOf x) (x .owed) ≡ 0
-    was = omega (arith, share-in (suc (t + k)) (dueOf x) (x .owed) (omega (arith, some)), settled (omega (arith, some)))
+    was = omega (arith, share-in (suc (t + k)) (dueOf x) (x .owed) (omega (arith, ordered, some)), settled (omega (arith, ordered, some)))
 
     now : k - (x .next - t) ≡ k
     now = omega (arith, some)
@@ -131,20 +132,20 @@ task-full t k (suc w) x sound settled e = go (le-or-lt d k)
 
     go : (d ≤ k) ⊎ (k < d) → dueIn t k x ≤ dueIn t k (arrive t (suc w) x)
     go (inl h) =
-        rw (was, now, then, share-in (suc (t + k)) (t + p - (p - d)) (x .owed + suc w) (omega (arith, sound)), ← jobs-arrive k d p (sound .some) (sound .fits) h)
+        rw (was, now, then, share-in (suc (t + k)) (t + d) (x .owed + suc w) (omega (arith, sound)), ← jobs-arrive k d p (sound .some) (sound .fits) h)
         (omega (arith, some, mul-suc c (jobs (k - p) d p)))
     go (inr h) = rw (was, now, jobs-none k d p h (sound .fits), mul-zero c) (omega arith)
 
 -- So for all tasks.
-pub tasks-full : (t k : ℕ) (xs : List Live) → Valid (tableOf xs) → Settled t xs
+pub tasks-full : (t k : ℕ) (xs : List Live) → Valid (tableOf xs) → Ordered xs → Settled t xs
     → before (suc (t + k)) xs + future t k xs ≤ before (suc (t + k)) (arrived t xs) + future t k (arrived t xs)
 unfolding arriveAll full beforeBy future tableOf
-tasks-full t k [] valid settled = omega arith
-tasks-full t k (x ∷ xs) valid settled =
+tasks-full t k [] valid ordered settled = omega arith
+tasks-full t k (x ∷ xs) valid ordered settled =
     omega (
       arith,
-      task-full t k (share (suc t - x .next) (x .row .cost)) x (valid .0) (settled .0) refl,
-      tasks-full t k xs (valid .1) (settled .1),
+      task-full t k (share (suc t - x .next) (x .row .cost)) x (valid .0) (ordered .0) (settled .0) refl,
+      tasks-full t k xs (valid .1) (ordered .1) (settled .1),
     )
 
 -- A period holds one arrival, rounded up or not.

@@ -6,10 +6,11 @@ use native.Mathlib.Nat.{zero-add, add-zero}
 use native.Mathlib.Omega.{arith}
 use Prim.Native.Nat.{ℕ, zero, suc, _+_, _-_, _≤_, _<_}
 use Rattle.demand.specs.Demands.{called, taken, due, Passes}
-use Rattle.demand.specs.Rows.{Row, deadlineOf, Positive, Valid}
+use Rattle.demand.specs.Rows.{Row, Positive, Valid}
 use Rattle.demand.proofs.Demands.{handled-taken, passes-zero}
 use Rattle.demand.proofs.Taken.{taken-mono, taken-shift, taken-shift-suc}
 use Rattle.scheduler.specs.Machine.{Live, State, Arrivals, dueOf, tableOf, idle, freshState, arriveAll, LegalAll, owedAll, share, beforeBy, before, serve, edf, givenBy, tickBy, tick, LegalTick, OnTime}
+use Rattle.scheduler.proofs.Machine.Ordered.{Ordered, idle-ordered, arrive-ordered, ran-ordered}
 use Rattle.scheduler.proofs.Machine.Room.{Safe, future, callable, share-in, tasks-arrive, handlers-arrive, future-less, callable-less, future-le-due, callable-le-called, serve-callable, edf-before, ran-future}
 use Rattle.scheduler.proofs.Machine.Sync.{pick-ran, serve-ran, ran-table}
 
@@ -49,7 +50,7 @@ module _ (choose : List Live → List Live) where
 pub idle-before : (n : ℕ) (rs : List Row) → before n (idle rs) ≡ 0
 unfolding idle beforeBy
 idle-before n [] = refl
-idle-before n (r ∷ rs) = go (n - (0 - (r .period - deadlineOf r))) (idle-before n rs)
+idle-before n (r ∷ rs) = go (n - 0) (idle-before n rs)
   where
     go : (k : ℕ) → before n (idle rs) ≡ 0 → share k 0 + before n (idle rs) ≡ 0
     go zero rest = omega arith
@@ -78,13 +79,13 @@ safe-on-time N s short safe =
 -- ---- the invariant is kept
 
 -- Legal arrivals raise nothing.
-pub safe-arrive : (N t : ℕ) (ws vs : List ℕ) (ts hs : List Live) → Valid (tableOf ts) → Positive (tableOf hs) → LegalAll t ws ts → LegalAll t vs hs
+pub safe-arrive : (N t : ℕ) (ws vs : List ℕ) (ts hs : List Live) → Valid (tableOf ts) → Positive (tableOf hs) → Ordered ts → LegalAll t ws ts → LegalAll t vs hs
     → Safe N t ts hs → Safe N t (arriveAll t ws ts) (arriveAll t vs hs)
-safe-arrive N t ws vs ts hs pt ph lt lh safe k short =
+safe-arrive N t ws vs ts hs pt ph ordered lt lh safe k short =
     omega (
       arith,
       safe k short,
-      tasks-arrive t k ws ts pt lt,
+      tasks-arrive t k ws ts pt ordered lt,
       taken-mono (callable t (arriveAll t vs hs)) (callable t hs) (λ l. handlers-arrive t l vs hs ph lh) k,
     )
 
@@ -101,9 +102,9 @@ safe-serve N t ts hs some safe k short =
     ))
 
 -- A tick by the earliest deadline: one unit less is due by then, or nothing is and the stretch is as a fresh one.
-pub safe-edf : (N t : ℕ) (ts hs : List Live) → ((l : ℕ) → l < N → Passes (tableOf ts) (tableOf hs) l) → owedAll hs ≡ 0
+pub safe-edf : (N t : ℕ) (ts hs : List Live) → Valid (tableOf ts) → ((l : ℕ) → l < N → Passes (tableOf ts) (tableOf hs) l) → owedAll hs ≡ 0
     → Safe N t ts hs → Safe N (suc t) (edf ts) hs
-safe-edf N t ts hs passes none safe k short =
+safe-edf N t ts hs valid passes none safe k short =
     let e : suc t + k ≡ t + suc k = omega arith in
     rw (e, ran-future (suc t) k (pick-ran dueOf ts)) (go (before (suc (t + suc k)) ts) refl)
   where
@@ -115,7 +116,7 @@ safe-edf N t ts hs passes none safe k short =
         omega (
           arith,
           edf-before n ts,
-          future-le-due (suc t) k ts,
+          future-le-due (suc t) k ts valid,
           taken-mono (callable (suc t) hs) (called (tableOf hs)) (λ l. omega (arith, callable-le-called (suc t) (suc l) hs)) k,
           handled-taken (tableOf hs) k,
           passes k (omega arith),
@@ -134,6 +135,7 @@ safe-edf N t ts hs passes none safe k short =
 pub record Kept (N : ℕ) (ts hs : List Row) (s : State) : Type 0 where
   pub tasks-are : tableOf (s .tasks) ≡ ts
   pub handlers-are : tableOf (s .handlers) ≡ hs
+  pub ordered : Ordered (s .tasks)
   pub safe : Safe N (s .clock) (s .tasks) (s .handlers)
 
 module _ (N : ℕ) (ts hs : List Row) (pt : Valid ts) (ph : Positive hs) (passes : (l : ℕ) → 0 < l → l < N → Passes ts hs l) where
@@ -147,29 +149,32 @@ module _ (N : ℕ) (ts hs : List Row) (pt : Valid ts) (ph : Positive hs) (passes
       record {
         tasks-are = idle-table ts;
         handlers-are = idle-table hs;
+        ordered = idle-ordered ts;
         safe = λ k short.
             let passed : Passes ts hs k = passes-all k (omega (arith, zero-add k)) in
-            let tasks : future 0 k (idle ts) ≤ due ts k = rw (idle-table ts) at (future-le-due 0 k (idle ts)) in
+            let tasks : future 0 k (idle ts) ≤ due ts k = rw (idle-table ts) at (future-le-due 0 k (idle ts) (rw (idle-table ts) pt)) in
             let handlers : (l : ℕ) → callable 0 (idle hs) (suc l) ≤ called hs (suc l) =
             λ l. omega (arith, rw (idle-table hs) at (callable-le-called 0 (suc l) (idle hs)), idle-owed hs) in
             omega (arith, idle-before (suc (0 + k)) ts, taken-mono (callable 0 (idle hs)) (called hs) handlers k, handled-taken hs k);
       }
 
   -- The tick goes to a handler, or by the earliest deadline.
-  given-kept : (o t : ℕ) (xs ys : List Live) → tableOf xs ≡ ts → tableOf ys ≡ hs → owedAll ys ≡ o → Safe N t xs ys → Kept N ts hs (givenBy edf o t xs ys)
-  given-kept zero t xs ys ex ey eo safe =
+  given-kept : (o t : ℕ) (xs ys : List Live) → tableOf xs ≡ ts → tableOf ys ≡ hs → owedAll ys ≡ o → Ordered xs → Safe N t xs ys → Kept N ts hs (givenBy edf o t xs ys)
+  given-kept zero t xs ys ex ey eo ordered safe =
       record {
         tasks-are = ran-table (pick-ran dueOf xs) ∙ ex;
         handlers-are = ey;
-        safe = safe-edf N t xs ys (rw (ex, ey) passes-all) eo safe;
+        ordered = ran-ordered (pick-ran dueOf xs) ordered;
+        safe = safe-edf N t xs ys (rw ex pt) (rw (ex, ey) passes-all) eo safe;
       }
-  given-kept (suc o) t xs ys ex ey eo safe =
-      record { tasks-are = ex; handlers-are = ran-table (serve-ran ys) ∙ ey; safe = safe-serve N t xs ys (omega arith) safe }
+  given-kept (suc o) t xs ys ex ey eo ordered safe =
+      record { tasks-are = ex; handlers-are = ran-table (serve-ran ys) ∙ ey; ordered = ordered; safe = safe-serve N t xs ys (omega arith) safe }
 
   -- A legal tick keeps it.
   pub tick-kept : (a : Arrivals) (s : State) → LegalTick a s → Kept N ts hs s → Kept N ts hs (tick a s)
   unfolding tickBy
   tick-kept a s legal kept =
+      let valid : Valid (tableOf (s .tasks)) = rw (kept .tasks-are) pt in
       given-kept
       _
       (s .clock)
@@ -178,4 +183,5 @@ module _ (N : ℕ) (ts hs : List Row) (pt : Valid ts) (ph : Positive hs) (passes
       (arrive-table (s .clock) (a .toTasks) (s .tasks) ∙ kept .tasks-are)
       (arrive-table (s .clock) (a .toHandlers) (s .handlers) ∙ kept .handlers-are)
       refl
-      (safe-arrive N (s .clock) (a .toTasks) (a .toHandlers) (s .tasks) (s .handlers) (rw (kept .tasks-are) pt) (rw (kept .handlers-are) ph) (legal .0) (legal .1) (kept .safe))
+      (arrive-ordered (s .clock) (a .toTasks) (s .tasks) valid (kept .ordered))
+      (safe-arrive N (s .clock) (a .toTasks) (a .toHandlers) (s .tasks) (s .handlers) valid (rw (kept .handlers-are) ph) (kept .ordered) (legal .0) (legal .1) (kept .safe))

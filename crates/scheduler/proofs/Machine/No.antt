@@ -7,7 +7,7 @@ use native.Mathlib.Nat.{add-zero, zero-add, sub-zero}
 use native.Mathlib.Omega.{arith}
 use Prim.Native.Nat.{ℕ, zero, suc, _+_, _-_, _*_, _≤_, _<_}
 use Rattle.demand.specs.Demands.{ceil, called, taken, handled, due, Passes, Fails}
-use Rattle.demand.specs.Rows.{Row, deadlineOf, Positive, Valid}
+use Rattle.demand.specs.Rows.{Row, Positive, Valid}
 use Rattle.demand.proofs.Demands.{called-nil, called-cons, called-zero, due-nil, due-cons, due-zero, handled-taken}
 use Rattle.demand.proofs.Divide.{jobs}
 use Rattle.demand.proofs.Sums.{valid-positive}
@@ -16,6 +16,7 @@ use Rattle.scheduler.specs.Machine.{Live, dueOf, tableOf, idle, arriveAl
 use Rattle.scheduler.specs.Schedules.{beats, Ran, ran-none, ran-here, ran-later, Gave, to-handlers, to-tasks, Timely, start, onward}
 use Rattle.scheduler.proofs.Machine.Beats.{OnBeats, beats-arrived, Beating, beating-fresh, beating-full, beating-gave}
 use Rattle.scheduler.proofs.Machine.FullArrivals.{full, arrived, Settled, settled-arrive, settled-on-time, ran-settled, idle-settled, settled-before, tasks-full, handlers-full}
+use Rattle.scheduler.proofs.Machine.Ordered.{Ordered, idle-ordered, arrive-ordered, ran-ordered}
 use Rattle.scheduler.proofs.Machine.Room.{future, callable, ran-future, future-le-due, callable-le-called}
 use Rattle.scheduler.proofs.Machine.Sync.{gave-tasks}
 
@@ -38,7 +39,7 @@ pub future-same : (t k : ℕ) (xs : List Live) → OnBeats (suc t) xs → future
 unfolding future
 future-same t k [] b = refl
 future-same t k (x ∷ xs) b =
-    omega (arith, wait-same t k x (b .0 .from) (λ n. jobs n (deadlineOf (x .row)) (x .row .period)), future-same t k xs (b .1))
+    omega (arith, wait-same t k x (b .0 .from) (λ n. jobs n (x .row .deadline) (x .row .period)), future-same t k xs (b .1))
 
 -- And what handlers can yet be called for.
 pub callable-same : (t k : ℕ) (xs : List Live) → OnBeats (suc t) xs → callable t xs (suc k) ≡ callable (suc t) xs k
@@ -73,10 +74,10 @@ abbrev pub Owes : List Row → List Row → ℕ → List Live → List Live → 
 Owes ts hs t xs ys = (k : ℕ) → handled hs (t + k) + due ts (t + k) ≤ t + (before (suc (t + k)) xs + future t k xs + taken (callable t ys) k)
 
 -- A fresh table can yet have all of D due.
-pub idle-future : (k : ℕ) (rs : List Row) → due rs k ≤ future 0 k (idle rs)
+pub idle-future : (k : ℕ) (rs : List Row) → Valid rs → due rs k ≤ future 0 k (idle rs)
 unfolding idle future
-idle-future k [] = omega (arith, due-nil k)
-idle-future k (r ∷ rs) = rw (sub-zero k) (omega (arith, due-cons r rs k, idle-future k rs))
+idle-future k [] valid = omega (arith, due-nil k)
+idle-future k (r ∷ rs) valid = rw (sub-zero k) (omega (arith, due-cons r rs k (valid .0), idle-future k rs (valid .1)))
 
 -- And be called for all of A.
 pub idle-callable : (k : ℕ) (rs : List Row) → called rs k ≤ callable 0 (idle rs) k
@@ -85,24 +86,24 @@ idle-callable k [] = omega (arith, called-nil k)
 idle-callable k (r ∷ rs) = rw (sub-zero k) (omega (arith, called-cons r rs k, idle-callable k rs))
 
 -- So at clock 0 all that is asked for is still to come.
-owes-fresh : (ts hs : List Row) → Owes ts hs 0 (idle ts) (idle hs)
-owes-fresh ts hs k =
+owes-fresh : (ts hs : List Row) → Valid ts → Owes ts hs 0 (idle ts) (idle hs)
+owes-fresh ts hs valid k =
     rw (zero-add k)
     (omega (
       arith,
-      idle-future k ts,
+      idle-future k ts valid,
       handled-taken hs k,
       taken-mono (called hs) (callable 0 (idle hs)) (λ l. idle-callable (suc l) hs) k,
     ))
 
 -- Full arrivals on time lose nothing.
-owes-arrived : (ts hs : List Row) (t : ℕ) (xs ys : List Live) → Valid (tableOf xs) → Positive (tableOf ys) → Settled t xs
+owes-arrived : (ts hs : List Row) (t : ℕ) (xs ys : List Live) → Valid (tableOf xs) → Positive (tableOf ys) → Ordered xs → Settled t xs
     → Owes ts hs t xs ys → Owes ts hs t (arrived t xs) (arrived t ys)
-owes-arrived ts hs t xs ys px py settled owes k =
+owes-arrived ts hs t xs ys px py ordered settled owes k =
     omega (
       arith,
       owes k,
-      tasks-full t k xs px settled,
+      tasks-full t k xs px ordered settled,
       taken-mono (callable t ys) (callable t (arrived t ys)) (λ l. handlers-full t (suc l) ys py) k,
     )
 
@@ -135,6 +136,7 @@ owes-gave ts hs t (to-tasks {xs = xs} {ys = ys} {xs' = xs'} none r) bx by owes k
 
 pub record Holds (ts hs : List Row) (t : ℕ) (xs ys : List Live) : Type 0 where
   pub beating : Beating ts hs t xs ys
+  pub ordered : Ordered xs
   pub settled : Settled t xs
   pub owes : Owes ts hs t xs ys
 
@@ -151,26 +153,28 @@ module _ (ts hs : List Row) (pt : Valid ts) (ph : Positive hs) where
       let full-tick : Gave (arrived t xs) (arrived t ys) xs' ys' = beating-full ts hs b g in
       record {
         beating = beating-gave ts hs b (valid-positive ts pt) ph g;
+        ordered = ran-ordered (gave-tasks full-tick) (arrive-ordered t (full t xs) xs px (h .ordered));
         settled = settled-on-time t xs' (ran-settled t (gave-tasks full-tick) (settled-arrive t (full t xs) xs px (h .settled))) on;
-        owes = owes-gave ts hs t full-tick bx by (owes-arrived ts hs t xs ys px py (h .settled) (h .owes));
+        owes = owes-gave ts hs t full-tick bx by (owes-arrived ts hs t xs ys px py (h .ordered) (h .settled) (h .owes));
       }
 
   -- So at every state that a schedule comes to on time.
   pub timely-holds : {t : ℕ} {xs ys : List Live} → Timely ts hs t xs ys → Holds ts hs t xs ys
   timely-holds start =
-      record { beating = beating-fresh ts hs (valid-positive ts pt) ph; settled = idle-settled 0 ts; owes = owes-fresh ts hs }
+      record { beating = beating-fresh ts hs (valid-positive ts pt) ph; ordered = idle-ordered ts; settled = idle-settled 0 ts; owes = owes-fresh ts hs pt }
   timely-holds (onward run g on) = onward-holds (timely-holds run) g on
 
   -- The theorem: whatever schedule is on time up to clock t, the table passes at t.
   pub timely-passes : {t : ℕ} {xs ys : List Live} → Timely ts hs t xs ys → Passes ts hs t
   timely-passes {t} {xs} {ys} run =
       let h : Holds ts hs t xs ys = timely-holds run in
+      let valid : Valid (tableOf xs) = rw (h .beating .tasks-are) pt in
       let room : handled hs t + due ts t ≤ t + (before (suc t) xs + future t 0 xs + taken (callable t ys) 0) = simp add-zero at (h .owes 0) in
       omega (
         arith,
         settled-before t xs (h .settled),
-        future-le-due t 0 xs,
-        due-zero (tableOf xs) (rw (h .beating .tasks-are) pt),
+        future-le-due t 0 xs valid,
+        due-zero (tableOf xs) valid,
         taken-le (callable t ys) 0,
       )
 

@@ -10,14 +10,15 @@ use native.Mathlib.Nat.{mul-zero, mul-suc, mul-le-mul-left}
 use native.Mathlib.Omega.{arith}
 use Prim.Native.Nat.{ℕ, zero, suc, _+_, _-_, _*_, _≤_, _<_}
 use Rattle.demand.specs.Demands.{ceil, called, taken, due}
-use Rattle.demand.specs.Rows.{deadlineOf, Positive, Sound, Valid}
+use Rattle.demand.specs.Rows.{Positive, Sound, Valid}
 use Rattle.demand.proofs.Demands.{called-cons, due-cons}
 use Rattle.demand.proofs.Divide.{jobs, le-or-lt, jobs-mono, jobs-none, jobs-arrive, ceil-mono, ceil-arrive}
 use Rattle.scheduler.specs.Machine.{Live, dueOf, tableOf, arrive, Legal, arriveAll, LegalAll, owedAll, share, beforeBy, before, served, serve, chosen, pick, edf}
 use Rattle.scheduler.specs.Schedules.{Ran, ran-none, ran-here, ran-later}
+use Rattle.scheduler.proofs.Machine.Ordered.{Ordered}
 
 abbrev pub yetDue : ℕ → ℕ → Live → ℕ
-yetDue t k x = x .row .cost * jobs (k - (x .next - t)) (deadlineOf (x .row)) (x .row .period)
+yetDue t k x = x .row .cost * jobs (k - (x .next - t)) (x .row .deadline) (x .row .period)
 
 unfoldable pub future : ℕ → ℕ → List Live → ℕ
 future t k [] = 0
@@ -71,21 +72,21 @@ before-mono (x ∷ xs) {n} {n'} h = omega (arith, share-mono n n' (dueOf x) (x .
 -- ---- arrivals
 
 -- A task's arrival moves work from what can be due to what is due.
-task-arrives : (t k w : ℕ) (x : Live) → Sound (x .row) → Legal t w x → dueIn t k (arrive t w x) ≤ dueIn t k x
-task-arrives t k zero x sound legal = omega arith
-task-arrives t k (suc w) x sound legal = go (le-or-lt d k)
+task-arrives : (t k w : ℕ) (x : Live) → Sound (x .row) → x .due ≤ x .next → Legal t w x → dueIn t k (arrive t w x) ≤ dueIn t k x
+task-arrives t k zero x sound ordered legal = omega arith
+task-arrives t k (suc w) x sound ordered legal = go (le-or-lt d k)
   where
     p : ℕ
     p = x .row .period
 
     d : ℕ
-    d = deadlineOf (x .row)
+    d = x .row .deadline
 
     c : ℕ
     c = x .row .cost
 
     was : share (suc (t + k) - dueOf x) (x .owed) ≡ x .owed
-    was = share-in (suc (t + k)) (dueOf x) (x .owed) (omega (arith, legal .0))
+    was = share-in (suc (t + k)) (dueOf x) (x .owed) (omega (arith, ordered, legal .0))
 
     now : k - (x .next - t) ≡ k
     now = omega (arith, legal .0)
@@ -95,23 +96,19 @@ task-arrives t k (suc w) x sound legal = go (le-or-lt d k)
 
     go : (d ≤ k) ⊎ (k < d) → dueIn t k (arrive t (suc w) x) ≤ dueIn t k x
     go (inl h) =
-        rw (was, now, then, share-in (suc (t + k)) (t + p - (p - d)) (x .owed + suc w) (omega (arith, sound)), ← jobs-arrive k d p (sound .some) (sound .fits) h)
+        rw (was, now, then, share-in (suc (t + k)) (t + d) (x .owed + suc w) (omega (arith, sound)), ← jobs-arrive k d p (sound .some) (sound .fits) h)
         (omega (arith, legal .1, mul-suc c (jobs (k - p) d p)))
     go (inr h) =
-        rw (was, now, then, share-out (suc (t + k)) (t + p - (p - d)) (x .owed + suc w) (omega (arith, sound)), jobs-none (k - p) d p (omega arith) (sound .fits), mul-zero c) (omega arith)
+        rw (was, now, then, share-out (suc (t + k)) (t + d) (x .owed + suc w) (omega (arith, sound)), jobs-none (k - p) d p (omega arith) (sound .fits), mul-zero c) (omega arith)
 
 -- So for all tasks: legal arrivals raise nothing.
-pub tasks-arrive : (t k : ℕ) (ws : List ℕ) (ts : List Live) → Valid (tableOf ts) → LegalAll t ws ts
+pub tasks-arrive : (t k : ℕ) (ws : List ℕ) (ts : List Live) → Valid (tableOf ts) → Ordered ts → LegalAll t ws ts
     → before (suc (t + k)) (arriveAll t ws ts) + future t k (arriveAll t ws ts) ≤ before (suc (t + k)) ts + future t k ts
 unfolding arriveAll beforeBy future tableOf
-tasks-arrive t k [] ts pos legal = omega arith
-tasks-arrive t k (w ∷ ws) [] pos legal = omega arith
-tasks-arrive t k (w ∷ ws) (x ∷ xs) pos legal =
-    omega (arith, task-arrives t k w x (pos .0) (legal .0), tasks-arrive t k ws xs (pos .1) (legal .1))
-
--- The deadline of a job is t + deadline, where t is the tick of its arrival.
-pub due-arrive : (t w : ℕ) (x : Live) → deadlineOf (x .row) ≤ x .row .period → dueOf (arrive t (suc w) x) ≡ t + deadlineOf (x .row)
-due-arrive t w x fits = omega arith
+tasks-arrive t k [] ts pos ordered legal = omega arith
+tasks-arrive t k (w ∷ ws) [] pos ordered legal = omega arith
+tasks-arrive t k (w ∷ ws) (x ∷ xs) pos ordered legal =
+    omega (arith, task-arrives t k w x (pos .0) (ordered .0) (legal .0), tasks-arrive t k ws xs (pos .1) (ordered .1) (legal .1))
 
 -- A handler's arrival moves work from what can be called for to what is owed.
 pub handler-arrives : (t l w : ℕ) (x : Live) → 0 < x .row .period → Legal t w x → calls t (suc l) (arrive t w x) ≤ calls t (suc l) x
@@ -147,7 +144,7 @@ pub future-less : (t k : ℕ) (ts : List Live) → future (suc t) k ts ≤ futur
 unfolding future
 future-less t k [] = omega arith
 future-less t k (x ∷ xs) =
-    omega (arith, mul-le-mul-left (x .row .cost) (jobs-mono (deadlineOf (x .row)) (x .row .period) (wait-less t k (x .next))), future-less t k xs)
+    omega (arith, mul-le-mul-left (x .row .cost) (jobs-mono (x .row .deadline) (x .row .period) (wait-less t k (x .next))), future-less t k xs)
 
 -- And no more can be called for.
 pub callable-less : (t k : ℕ) (hs : List Live) → callable (suc t) hs k ≤ callable t hs (suc k)
@@ -157,12 +154,12 @@ callable-less t k (x ∷ xs) =
     omega (arith, mul-le-mul-left (x .row .cost) (ceil-mono (x .row .period) (wait-less t k (x .next))), callable-less t k xs)
 
 -- Tasks can have no more due than a fresh table has.
-pub future-le-due : (t k : ℕ) (ts : List Live) → future t k ts ≤ due (tableOf ts) k
+pub future-le-due : (t k : ℕ) (ts : List Live) → Valid (tableOf ts) → future t k ts ≤ due (tableOf ts) k
 unfolding future tableOf
-future-le-due t k [] = omega arith
-future-le-due t k (x ∷ xs) =
+future-le-due t k [] valid = omega arith
+future-le-due t k (x ∷ xs) valid =
     let l : k - (x .next - t) ≤ k = omega arith in
-    omega (arith, mul-le-mul-left (x .row .cost) (jobs-mono (deadlineOf (x .row)) (x .row .period) l), due-cons (x .row) (tableOf xs) k, future-le-due t k xs)
+    omega (arith, mul-le-mul-left (x .row .cost) (jobs-mono (x .row .deadline) (x .row .period) l), due-cons (x .row) (tableOf xs) k (valid .0), future-le-due t k xs (valid .1))
 
 -- And so of handlers, beside what they are owed.
 pub callable-le-called : (t k : ℕ) (hs : List Live) → callable t hs k ≤ owedAll hs + called (tableOf hs) k

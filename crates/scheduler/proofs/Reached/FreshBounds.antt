@@ -4,18 +4,20 @@ use mathlib.Core.List.{List}
 use mathlib.Core.Logic.{_⊎_, inl, inr}
 use mathlib.Core.Path.{_≡_, refl, sym, ap, _∙_}
 use native.Mathlib.Omega.{arith}
-use borrow.Author.Tests.{le-ltb, ltb-true, ltb-false, ne-eqb, eqb-true, eqb-false}
+use borrow.Author.Tests.{lt-ltb, le-ltb, ltb-true, ltb-false, ne-eqb, eqb-true, eqb-false}
 use Prim.Native.Nat.{ℕ, zero, suc, _+_, _-_, _*_, _≤_, _<_}
 use lib.Dec.{ltb, eqb}
 use lib.ListN.{length, getD, drop, replicate, length-append, length-replicate, getD-replicate, List·getD-append, List·getD-eq-default}
 use lib.Seq.{drop-at}
 use Rattle.demand.proofs.Divide.{le-or-lt}
 use Rattle.demand.proofs.Places.{rows-append, each-at}
-use Rattle.demand.proofs.Refused.{row-inside}
+use Rattle.demand.proofs.Refused.{row-inside, deadline-inside}
 use Rattle.demand.specs.Limits.{tasksMost, handlersMost}
 use Rattle.demand.specs.Refusals.{tableRefusal, FairRow}
-use Rattle.demand.specs.Rows.{Row, rowsOf, tasksOf, handlersOf, rowAt, noRow}
-use Rattle.scheduler.specs.Bounds.{miscounts, outsideAt, placesUsed, InBounds}
+use Rattle.demand.specs.Rows.{Row, rowsOf, width, tasksOf, handlersOf, rowAt, noRow, Sound}
+use Rattle.demand.specs.declared.readable.Kind.{Kind}
+use Rattle.demand.specs.declared.readable.Kind.the-variants.{Task, Handler}
+use Rattle.scheduler.specs.Bounds.{miscounts, outsideAt, deadlineOutsideAt, placesUsed, InBounds}
 use Rattle.scheduler.specs.Runs.{rowIn, rowCount, Shaped}
 use Rattle.scheduler.specs.Scans.{used}
 use Rattle.scheduler.specs.Start.{padded, zeros, freshRun, freshOf}
@@ -32,21 +34,21 @@ unfolding used
 used-zeros zero = refl
 used-zeros (suc n) = used-zeros n
 
-pub zeros-at : (k : ℕ) → getD zeros k 0 ≡ 0
+pub zeros-at : (n k : ℕ) → getD (zeros n) k 0 ≡ 0
 unfolding zeros
-zeros-at k = go (le-or-lt 80 k)
+zeros-at n k = go (le-or-lt n k)
   where
-    go : (80 ≤ k) ⊎ (k < 80) → getD {A = ℕ} (replicate 80 0) k 0 ≡ 0
-    go (inl l) = List·getD-eq-default {A = ℕ} (replicate 80 0) 0 {n = k} (omega (arith, length-replicate {A = ℕ} 80 0))
-    go (inr l) = getD-replicate {A = ℕ} 80 k 0 0 l
+    go : (n ≤ k) ⊎ (k < n) → getD {A = ℕ} (replicate n 0) k 0 ≡ 0
+    go (inl l) = List·getD-eq-default {A = ℕ} (replicate n 0) 0 {n = k} (omega (arith, length-replicate {A = ℕ} n 0))
+    go (inr l) = getD-replicate {A = ℕ} n k 0 0 l
 
-zeros-length : length zeros ≡ 80
+pub zeros-length : (n : ℕ) → length (zeros n) ≡ n
 unfolding zeros
-zeros-length = length-replicate {A = ℕ} 80 0
+zeros-length n = length-replicate {A = ℕ} n 0
 
-zeros-unused : (n : ℕ) → used (drop n zeros) ≡ false
+zeros-unused : (n k : ℕ) → used (drop k (zeros n)) ≡ false
 unfolding zeros
-zeros-unused n = rw (drop-replicate n 80) (used-zeros (80 - n))
+zeros-unused n k = rw (drop-replicate k n) (used-zeros (n - k))
 
 -- ---- the table, padded
 
@@ -58,11 +60,12 @@ padded-unused : (n : ℕ) (xs : List ℕ) (k : ℕ) → length xs ≡ k → used
 unfolding padded
 padded-unused n xs k e = rw (drop-at xs (replicate (n - length xs) 0) k e) (used-zeros (n - length xs))
 
-padded-row : (n : ℕ) (xs : List ℕ) (k : ℕ) → length xs ≡ 2 * length (rowsOf xs) → k < length (rowsOf xs) → rowAt (rowsOf (padded n xs)) k ≡ rowAt (rowsOf xs) k
+padded-row : (kind : Kind) (n : ℕ) (xs : List ℕ) (k : ℕ) → length xs ≡ width kind * length (rowsOf kind xs) → k < length (rowsOf kind xs)
+    → rowAt (rowsOf kind (padded n xs)) k ≡ rowAt (rowsOf kind xs) k
 unfolding padded
-padded-row n xs k e l =
-    ap (λ (rs : List Row). rowAt rs k) (rows-append xs (replicate (n - length xs) 0) e)
-    ∙ List·getD-append (rowsOf xs) (rowsOf (replicate (n - length xs) 0)) noRow k l
+padded-row kind n xs k e l =
+    ap (λ (rs : List Row). rowAt rs k) (rows-append kind xs (replicate (n - length xs) 0) e)
+    ∙ List·getD-append (rowsOf kind xs) (rowsOf kind (replicate (n - length xs) 0)) noRow k l
 
 -- ---- the fresh run
 
@@ -86,29 +89,38 @@ module _ (t h : List ℕ) (e : tableRefusal t h ≡ 0) where
       go : (b : Bool) → ltb k (length (tasksOf t)) ≡ b → outsideAt (rowIn (freshRun t h)) k ≡ false
       go true q =
           let below = ltb-true k (length (tasksOf t)) q in
-          rw (q, padded-row 128 t k (table .tasks) below) (row-inside _ (each-at FairRow (tasksOf t) (table .in-range .tasks) k below))
+          rw (q, padded-row Task 192 t k (table .tasks) below) (row-inside _ (each-at FairRow (tasksOf t) (table .in-range .tasks) k below))
       go false q =
           let above = ltb-false k (length (tasksOf t)) q in
           let i : ℕ = k - length (tasksOf t) in
           let below : i < length (handlersOf h) = omega arith in
-          rw (q, padded-row 32 h i (table .handlers) below) (row-inside _ (each-at FairRow (handlersOf h) (table .in-range .handlers) i below))
+          rw (q, padded-row Handler 32 h i (table .handlers) below) (row-inside _ (each-at FairRow (handlersOf h) (table .in-range .handlers) i below))
+
+  own : (k : ℕ) → k < length (tasksOf t) → deadlineOutsideAt (rowIn (freshRun t h)) k ≡ false
+  unfolding freshRun
+  own k l = rw (lt-ltb k (length (tasksOf t)) l, padded-row Task 192 t k (table .tasks) l) (deadline-inside _ (each-at Sound (tasksOf t) (table .in-range .deadlines) k l))
 
   places : placesUsed (freshRun t h) ≡ false
   unfolding freshRun
   places =
       rw (
-        padded-unused 128 t (2 * length (tasksOf t)) (table .tasks),
+        padded-unused 192 t (3 * length (tasksOf t)) (table .tasks),
         padded-unused 32 h (2 * length (handlersOf h)) (table .handlers),
-        zeros-unused (length (tasksOf t) + length (handlersOf h)),
+        zeros-unused 80 (length (tasksOf t) + length (handlersOf h)),
+        zeros-unused 64 (length (tasksOf t)),
       )
 
   nothing-next : {x : ℕ} (k : ℕ) → getD (freshRun t h .next) k 0 ≤ x
   unfolding freshRun
-  nothing-next k = omega (arith, zeros-at k)
+  nothing-next k = omega (arith, zeros-at 80 k)
+
+  nothing-due : {x : ℕ} (k : ℕ) → getD (freshRun t h .due) k 0 ≤ x
+  unfolding freshRun
+  nothing-due k = omega (arith, zeros-at 64 k)
 
   nothing-owed : {x : ℕ} (k : ℕ) → getD (freshRun t h .owed) k 0 ≤ x
   unfolding freshRun
-  nothing-owed k = omega (arith, zeros-at k)
+  nothing-owed k = omega (arith, zeros-at 80 k)
 
   pub fresh-bounds : InBounds (freshRun t h)
   fresh-bounds =
@@ -116,11 +128,14 @@ module _ (t h : List ℕ) (e : tableRefusal t h ≡ 0) where
       (record {
         counts = unfold freshRun in counts;
         figures = any-false (outsideAt (rowIn (freshRun t h))) (rowCount (freshRun t h)) (unfold freshRun in figures);
+        own = any-false (deadlineOutsideAt (rowIn (freshRun t h))) (freshRun t h .«task_count») (unfold freshRun in own);
         places = places;
         clock = unfold freshRun in refl;
         next = any-false _ (rowCount (freshRun t h)) (λ k l. le-ltb _ _ (nothing-next k));
         tasks = any-false _ (freshRun t h .«task_count») (λ k l. le-ltb _ _ (nothing-owed k));
         handlers = any-false _ (freshRun t h .«handler_count») (λ i l. le-ltb _ _ (nothing-owed _));
+        due = any-false _ (freshRun t h .«task_count») (λ k l. le-ltb _ _ (nothing-due k));
+        ordered = any-false _ (freshRun t h .«task_count») (λ k l. le-ltb _ _ (nothing-due k));
         deadlines = any-false _ (freshRun t h .«task_count») (λ k l. rw (le-ltb 0 (getD (freshRun t h .owed) k 0) (nothing-owed k)));
         late = unfold freshRun in refl;
         named = unfold freshRun in refl;
@@ -129,10 +144,11 @@ module _ (t h : List ℕ) (e : tableRefusal t h ≡ 0) where
   pub fresh-shape : Shaped (freshRun t h)
   unfolding freshRun
   fresh-shape = record {
-    tasks-128 = padded-length 128 t (tasks-fit t h e);
+    tasks-192 = padded-length 192 t (tasks-fit t h e);
     handlers-32 = padded-length 32 h (handlers-fit t h e);
-    next-80 = zeros-length;
-    owed-80 = zeros-length;
+    next-80 = zeros-length 80;
+    due-64 = zeros-length 64;
+    owed-80 = zeros-length 80;
   }
 
 -- A fresh run that is ready is that of a table without a refusal.

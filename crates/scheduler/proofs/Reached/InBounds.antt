@@ -15,7 +15,7 @@ use Rattle.scheduler.specs.declared.Stepped.{Stepped}
 use Rattle.scheduler.proofs.Steps.Answers.{Passed, passed, step-ticks, step-refused}
 use Rattle.scheduler.proofs.Reached.FreshBounds.{fresh-bounds, fresh-shape, ready, ready-run}
 use Rattle.scheduler.proofs.Steps.Goes.{goes-to}
-use Rattle.scheduler.proofs.Reached.KeepsBounds.{nextNow, owedNow, keeps-bounds, keeps-shape}
+use Rattle.scheduler.proofs.Reached.KeepsBounds.{nextNow, dueNow, owedNow, keeps-bounds, keeps-shape}
 
 -- A step is refused, or passes every test and is the tick.
 pub data Outcome (key : Live → ℕ) (r : Run) (ws : List ℕ) : Type 0 where
@@ -38,8 +38,9 @@ ticked-sound : (key : Live → ℕ) (r : Run) (ws : List ℕ) → Sound r → Pa
 unfolding tickedBy
 ticked-sound key r ws s p =
     let next = nextNow r ws (s .shaped) p in
+    let due = dueNow r ws (s .shaped) p in
     let owed = owedNow r ws (s .shaped) p in
-    let key-at : ℕ → ℕ = keyWith key r next owed in
+    let key-at : ℕ → ℕ = keyWith key r next due owed in
     let goes = goes-to key-at owed (r .«task_count») (r .«handler_count») in
     record {
       in-bounds = keeps-bounds r ws (s .shaped) p key-at (goesTo key-at owed (r .«task_count») (r .«handler_count»)) goes;

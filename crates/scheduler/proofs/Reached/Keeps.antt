@@ -4,14 +4,14 @@ use mathlib.Core.Bool.{Bool, true, false, not, _&&_, false≢true}
 use mathlib.Core.List.{List}
 use mathlib.Core.Path.{_≡_, refl, sym, ap, _∙_}
 use native.Mathlib.Omega.{arith}
-use borrow.Author.Tests.{ltb-true, ltb-false, eqb-true, eqb-false, le-ltb, lt-ltb, lt-leb, eq-eqb}
+use borrow.Author.Tests.{ltb-true, ltb-false, eqb-true, eqb-false, le-ltb, lt-ltb, lt-leb, eq-eqb, ne-eqb}
 use Prim.Native.Nat.{ℕ, _+_, _-_, _≤_, _<_}
 use lib.Dec.{ltb, eqb}
 use lib.ListN.{length, getD, drop, length-set}
 use lib.Seq.{drop-set-lt, getD-set-same, getD-set-other, set-out}
 use Rattle.demand.specs.Rows.{Row}
 use Rattle.scheduler.specs.Bounds.{passed, names}
-use Rattle.scheduler.specs.Tick.{nextAfter, GoesTo, less, paid, isLate, lateRow, isTask}
+use Rattle.scheduler.specs.Tick.{ahead, nextAfter, GoesTo, less, paid, isLate, lateRow, isTask}
 use Rattle.scheduler.specs.declared.Late.{Late}
 use Rattle.scheduler.specs.declared.Late.the-variants as late
 use Rattle.scheduler.specs.declared.Ran.{Ran}
@@ -33,6 +33,13 @@ came clock row next w timely light = go (eqb w 0) refl
     go false e =
         let some : w ≡ 0 → ⊥ = eqb-false w 0 e in
         legal (omega arith) (rw e) (ltb-false clock next (rw e at timely)) (ltb-false (row .cost) w light)
+
+-- A tick that an arrival moves, and one without an arrival.
+pub ahead-moves : (clock ticks w old : ℕ) → 0 < w → ahead clock ticks w old ≡ clock + ticks
+ahead-moves clock ticks w old some = rw (ne-eqb w 0 (λ none. omega arith))
+
+pub ahead-stays : (clock ticks w old : ℕ) → w ≡ 0 → ahead clock ticks w old ≡ old
+ahead-stays clock ticks w old none = rw (eq-eqb w 0 none)
 
 -- ---- the tick takes work, and gives none
 

@@ -21,7 +21,7 @@ use Rattle.scheduler.proofs.Reached.FreshBounds.{zeros-at, ready-run}
 use Rattle.scheduler.proofs.Steps.Goes.{goes-to}
 use Rattle.scheduler.proofs.Reached.InBounds.{Outcome, outcome, fresh-in-bounds, step-in-bounds}
 use Rattle.scheduler.proofs.Reached.InBounds.Outcome.{stays, goes}
-use Rattle.scheduler.proofs.Reached.KeepsBounds.{nextNow, owedNow, few, owed-at, owed-length}
+use Rattle.scheduler.proofs.Reached.KeepsBounds.{nextNow, dueNow, owedNow, few, owed-at, owed-length}
 use Rattle.scheduler.proofs.Steps.Sums.{sum-add, sum-zero, sum-less}
 
 -- The tick takes a unit of the work owed, unless it is idle.
@@ -51,8 +51,9 @@ module _ (r : Run) (ws : List ℕ) (shaped : Shaped r) (p : Passed r ws) where
   unfolding tickedBy owedIn
   ticked-sum key =
       let next = nextNow r ws shaped p in
+      let due = dueNow r ws shaped p in
       let owed = owedNow r ws shaped p in
-      let key-at : ℕ → ℕ = keyWith key r next owed in
+      let key-at : ℕ → ℕ = keyWith key r next due owed in
       let n : ℕ = r .«task_count» in
       let m : ℕ = r .«handler_count» in
       let pays = paid-sum key-at owed n m (goesTo key-at owed n m) (omega (arith, few r ws shaped p, owed-length r ws shaped p)) (goes-to key-at owed n m) in
@@ -78,7 +79,7 @@ fresh-owes : (t h : List ℕ) → owedIn (freshRun t h) ≡ 0
 unfolding owedIn freshRun
 fresh-owes t h =
     let n : ℕ = length (tasksOf t) + length (handlersOf h) in
-    sum-zero (take n zeros) (λ j l. getD-take n zeros j 0 (omega (arith, length-take n zeros)) ∙ zeros-at j)
+    sum-zero (take n (zeros 80)) (λ j l. getD-take n (zeros 80) j 0 (omega (arith, length-take n (zeros 80))) ∙ zeros-at 80 j)
 
 pub balance : Balance
 balance key t h e offers =

@@ -1,7 +1,6 @@
 -- Refusal 6 clause by clause: what the code tests one after the other, and what a run in bounds is.
 --   Clauses r   no clause of refusal 6 applies
-use mathlib.Core.Bool.{Bool, true, false, not, _&&_, _||_}
-use mathlib.Core.List.{List}
+use mathlib.Core.Bool.{Bool, true, false, _||_}
 use mathlib.Core.Logic.{_⊎_, inl, inr}
 use mathlib.Core.Path.{_≡_, refl}
 use native.Mathlib.Nat.{mul-le-mul}
@@ -13,20 +12,13 @@ use lib.ListN.{getD}
 use Rattle.demand.proofs.Divide.{le-or-lt}
 use Rattle.demand.specs.Limits.{tasksMost, handlersMost, ticksMost}
 use Rattle.demand.specs.Refusals.{FairRow}
-use Rattle.scheduler.specs.Bounds.{miscounts, outsideAt, tableRefused, placesUsed, clockPast, tooFar, nextTooFar, tooMuch, taskTooMuch, tooMuchBehind, handlerTooMuch, missed, deadlineMissed, names, lateWrong, lateNamed, outOfBounds, InBounds}
-use Rattle.scheduler.specs.Runs.{rowIn, rowCount, dueWith, dueIn, Fitting}
+use Rattle.demand.specs.Rows.{Sound}
+use Rattle.scheduler.specs.Bounds.{miscounts, outsideAt, deadlineOutsideAt, tableRefused, placesUsed, clockPast, tooFar, nextTooFar, tooMuch, taskTooMuch, tooMuchBehind, handlerTooMuch, dueFar, dueTooFar, dueBehind, dueAfterNext, missed, deadlineMissed, lateWrong, lateNamed, outOfBounds, InBounds}
+use Rattle.scheduler.specs.Runs.{rowIn, rowCount, Fitting}
 use Rattle.scheduler.specs.Scans.{at, any}
-use Rattle.scheduler.specs.Tick.{lateRow, isTask}
 use Rattle.scheduler.specs.declared.Run.{Run}
-use Rattle.scheduler.proofs.Steps.RowPlaces.{fair-at}
+use Rattle.scheduler.proofs.Steps.RowPlaces.{fair-at, sound-at}
 use Rattle.scheduler.proofs.Steps.Scan.{neither, any-at}
-
--- A deadline is the period, so that of the last job is the next arrival.
-pub due-next : (r : Run) (next : List ℕ) → dueWith r next ≡ at next
-due-next r next = λ i k. same k i
-  where
-    same : (k : ℕ) → dueWith r next k ≡ at next k
-    same k = omega arith
 
 pub fitting : (n m : ℕ) → miscounts n m ≡ false → Fitting n m
 fitting n m e =
@@ -37,20 +29,25 @@ fitting n m e =
 pub record Clauses (r : Run) : Type 0 where
   pub counts : miscounts (r .«task_count») (r .«handler_count») ≡ false
   pub figures : any (outsideAt (rowIn r)) (rowCount r) ≡ false
+  pub own : any (deadlineOutsideAt (rowIn r)) (r .«task_count») ≡ false
   pub places : placesUsed r ≡ false
   pub clock : clockPast r ≡ false
   pub next : nextTooFar r ≡ false
   pub tasks : taskTooMuch r ≡ false
   pub handlers : handlerTooMuch r ≡ false
+  pub due : dueTooFar r ≡ false
+  pub ordered : dueAfterNext r ≡ false
   pub deadlines : deadlineMissed r ≡ false
   pub late : lateWrong r ≡ false
   pub named : lateNamed r ≡ false
 
--- None of nine tests holds.
-none-of : (a b c d e f g h i : Bool) → (a || b || c || d || e || f || g || h || i) ≡ false
-    → (a ≡ false) × (b ≡ false) × (c ≡ false) × (d ≡ false) × (e ≡ false) × (f ≡ false) × (g ≡ false) × (h ≡ false) × (i ≡ false)
-none-of a b c d e f g h i none =
-    let u8 = neither (a || b || c || d || e || f || g || h) i none in
+-- None of eleven tests holds.
+none-of : (a b c d e f g h i j k : Bool) → (a || b || c || d || e || f || g || h || i || j || k) ≡ false
+    → (a ≡ false) × (b ≡ false) × (c ≡ false) × (d ≡ false) × (e ≡ false) × (f ≡ false) × (g ≡ false) × (h ≡ false) × (i ≡ false) × (j ≡ false) × (k ≡ false)
+none-of a b c d e f g h i j k none =
+    let u10 = neither (a || b || c || d || e || f || g || h || i || j) k none in
+    let u9 = neither (a || b || c || d || e || f || g || h || i) j (u10 .0) in
+    let u8 = neither (a || b || c || d || e || f || g || h) i (u9 .0) in
     let u7 = neither (a || b || c || d || e || f || g) h (u8 .0) in
     let u6 = neither (a || b || c || d || e || f) g (u7 .0) in
     let u5 = neither (a || b || c || d || e) f (u6 .0) in
@@ -58,37 +55,46 @@ none-of a b c d e f g h i none =
     let u3 = neither (a || b || c) d (u4 .0) in
     let u2 = neither (a || b) c (u3 .0) in
     let u1 = neither a b (u2 .0) in
-    (u1 .0, u1 .1, u2 .1, u3 .1, u4 .1, u5 .1, u6 .1, u7 .1, u8 .1)
+    (u1 .0, u1 .1, u2 .1, u3 .1, u4 .1, u5 .1, u6 .1, u7 .1, u8 .1, u9 .1, u10 .1)
 
 module _ (r : Run) where
   pub clauses : InBounds r → Clauses r
   unfolding outOfBounds
   clauses e =
-      let none = none-of (tableRefused r) (placesUsed r) (clockPast r) (nextTooFar r) (taskTooMuch r) (handlerTooMuch r) (deadlineMissed r) (lateWrong r) (lateNamed r) e in
-      let table = neither (miscounts (r .«task_count») (r .«handler_count»)) (any (outsideAt (rowIn r)) (rowCount r)) (none .0) in
+      let none = none-of (tableRefused r) (placesUsed r) (clockPast r) (nextTooFar r) (taskTooMuch r) (handlerTooMuch r) (dueTooFar r) (dueAfterNext r) (deadlineMissed r) (lateWrong r) (lateNamed r) e in
+      let own = neither (miscounts (r .«task_count») (r .«handler_count») || any (outsideAt (rowIn r)) (rowCount r)) (any (deadlineOutsideAt (rowIn r)) (r .«task_count»)) (none .0) in
+      let table = neither (miscounts (r .«task_count») (r .«handler_count»)) (any (outsideAt (rowIn r)) (rowCount r)) (own .0) in
       record {
         counts = table .0;
         figures = table .1;
+        own = own .1;
         places = none .1;
         clock = none .2;
         next = none .3;
         tasks = none .4;
         handlers = none .5;
-        deadlines = none .6;
-        late = none .7;
-        named = none .8;
+        due = none .6;
+        ordered = none .7;
+        deadlines = none .8;
+        late = none .9;
+        named = none .10;
       }
 
   pub in-bounds : Clauses r → InBounds r
   unfolding outOfBounds
   in-bounds c =
-      simp (c .counts, c .figures, c .places, c .clock, c .next, c .tasks, c .handlers, c .deadlines, c .late, c .named)
+      simp (c .counts, c .figures, c .own, c .places, c .clock, c .next, c .tasks, c .handlers, c .due, c .ordered, c .deadlines, c .late, c .named)
 
 -- ---- the code's answers, one after the other
 
 or-last : (a b c : Bool) → (a || (b || c)) ≡ ((a || b) || c)
 or-last true b c = refl
 or-last false b c = refl
+
+-- The clauses in the groups in which the code asks them.
+grouped : (x d e f g h : Bool) → ((x || (d || e || f)) || (g || h)) ≡ (x || d || e || f || g || h)
+grouped true d e f g h = refl
+grouped false d e f g h = or-last (d || e || f) g h
 
 module _ (r : Run) where
   pub out-counts : miscounts (r .«task_count») (r .«handler_count») ≡ true → true ≡ outOfBounds r
@@ -101,26 +107,29 @@ module _ (r : Run) where
     out-figures a = simp (counts, a)
 
     module _ (figures : any (outsideAt (rowIn r)) (rowCount r) ≡ false) where
-      pub out-places : placesUsed r ≡ true → true ≡ outOfBounds r
+      pub out-own : any (deadlineOutsideAt (rowIn r)) (r .«task_count») ≡ true → true ≡ outOfBounds r
       unfolding outOfBounds
-      out-places a = simp (counts, figures, a)
+      out-own a = simp (counts, figures, a)
 
-      module _ (places : placesUsed r ≡ false) where
-        pub out-clock : ticksMost < r .clock → true ≡ outOfBounds r
+      module _ (own : any (deadlineOutsideAt (rowIn r)) (r .«task_count») ≡ false) where
+        pub out-places : placesUsed r ≡ true → true ≡ outOfBounds r
         unfolding outOfBounds
-        out-clock a = simp (counts, figures, places, lt-ltb ticksMost (r .clock) a)
+        out-places a = simp (counts, figures, own, a)
 
-        pub out-rest : r .clock ≤ ticksMost → (rows deadlines late : Bool)
-            → rows ≡ (nextTooFar r || taskTooMuch r || handlerTooMuch r)
-            → deadlines ≡ any (missed (r .over) (r .clock) (at (r .next)) (r .owed)) (r .«task_count»)
-            → late ≡ ((r .over && not (names (r .late) (lateRow (r .clock) (at (r .next)) (r .owed) (r .«task_count»)))) || (not (r .over) && isTask (r .late)))
-            → (rows || deadlines || late) ≡ outOfBounds r
-        unfolding outOfBounds
-        out-rest a rows deadlines late er ed el =
-            let deadline = any (missed (r .over) (r .clock) (at (r .next)) (r .owed)) (r .«task_count») in
-            let wrong = r .over && not (names (r .late) (lateRow (r .clock) (at (r .next)) (r .owed) (r .«task_count»))) in
-            simp (counts, figures, places, le-ltb ticksMost (r .clock) a, due-next r (r .next))
-            (rw (er, ed, el) (or-last (nextTooFar r || taskTooMuch r || handlerTooMuch r || deadline) wrong (lateNamed r)))
+        module _ (places : placesUsed r ≡ false) where
+          pub out-clock : ticksMost < r .clock → true ≡ outOfBounds r
+          unfolding outOfBounds
+          out-clock a = simp (counts, figures, own, places, lt-ltb ticksMost (r .clock) a)
+
+          pub out-rest : r .clock ≤ ticksMost → (rows deadlines late : Bool)
+              → rows ≡ (nextTooFar r || taskTooMuch r || handlerTooMuch r)
+              → deadlines ≡ (dueTooFar r || dueAfterNext r || deadlineMissed r)
+              → late ≡ (lateWrong r || lateNamed r)
+              → (rows || deadlines || late) ≡ outOfBounds r
+          unfolding outOfBounds
+          out-rest a rows deadlines late er ed el =
+              simp (counts, figures, own, places, le-ltb ticksMost (r .clock) a)
+              (rw (er, ed, el) (grouped (nextTooFar r || taskTooMuch r || handlerTooMuch r) (dueTooFar r) (dueAfterNext r) (deadlineMissed r) (lateWrong r) (lateNamed r)))
 
 -- ---- what a run in bounds is, place by place
 
@@ -155,8 +164,19 @@ module _ (r : Run) (c : Clauses r) where
           let most : getD (r .owed) k 0 ≤ r .clock * rowIn r k .cost = rw same at (clauses-handler i (omega arith)) in
           omega (arith, most, mul-le-mul clauses-clock (clauses-fair k l .cost .most))
 
+  -- A task has a deadline of its own from 1 to its period, ..
+  pub clauses-sound : (k : ℕ) → k < r .«task_count» → Sound (rowIn r k)
+  clauses-sound k l = sound-at (rowIn r) (r .«task_count») k (c .own) l
+
+  -- .. and that of its last job is at most so far ahead, and not after its next arrival.
+  pub clauses-near : (k : ℕ) → k < r .«task_count» → getD (r .due) k 0 ≤ r .clock + rowIn r k .deadline
+  clauses-near k l = ltb-false _ _ (any-at (dueFar (r .clock) (rowIn r) (r .due)) (r .«task_count») k (c .due) l)
+
+  pub clauses-ordered : (k : ℕ) → k < r .«task_count» → getD (r .due) k 0 ≤ getD (r .next) k 0
+  clauses-ordered k l = ltb-false _ _ (any-at (dueBehind (r .next) (r .due)) (r .«task_count») k (c .ordered) l)
+
   -- Where it is not over, a task owed work has its deadline ahead.
-  pub clauses-due : r .over ≡ false → (k : ℕ) → k < r .«task_count» → 0 < getD (r .owed) k 0 → r .clock < dueIn r k
+  pub clauses-due : r .over ≡ false → (k : ℕ) → k < r .«task_count» → 0 < getD (r .owed) k 0 → r .clock < getD (r .due) k 0
   clauses-due going k l work =
-      let none = any-at (missed (r .over) (r .clock) (dueIn r) (r .owed)) (r .«task_count») k (c .deadlines) l in
-      leb-false (dueIn r k) (r .clock) (rw (lt-ltb 0 (getD (r .owed) k 0) work, going) at none)
+      let none = any-at (missed (r .over) (r .clock) (at (r .due)) (r .owed)) (r .«task_count») k (c .deadlines) l in
+      leb-false (getD (r .due) k 0) (r .clock) (rw (lt-ltb 0 (getD (r .owed) k 0) work, going) at none)

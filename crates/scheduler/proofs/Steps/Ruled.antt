@@ -11,7 +11,7 @@ use Rattle.scheduler.specs.Rule.{TickRule, OnlyOne, StepFigures, StepFig
 use Rattle.scheduler.specs.Runs.{rowIn, rowCount}
 use Rattle.scheduler.specs.Start.{startFigures}
 use Rattle.scheduler.specs.Steps.{stepRefusal, figures}
-use Rattle.scheduler.specs.Tick.{nextArrived, owedArrived, GoesTo, keyWith, goesTo, tickedBy}
+use Rattle.scheduler.specs.Tick.{nextArrived, dueArrived, owedArrived, GoesTo, keyWith, goesTo, tickedBy}
 use Rattle.scheduler.specs.declared.Answer.the-variants.{Ticked, Refused}
 use Rattle.scheduler.specs.declared.Fresh.{Fresh}
 use Rattle.scheduler.specs.declared.Late.{Late}
@@ -35,11 +35,14 @@ module _ (key : Live → ℕ) (r : Run) (ws : List ℕ) where
   abbrev next : List ℕ
   next = nextArrived (r .clock) (rowIn r) ws (rowCount r) (r .next)
 
+  abbrev due : List ℕ
+  due = dueArrived (r .clock) (rowIn r) ws (r .«task_count») (r .due)
+
   abbrev owed : List ℕ
   owed = owedArrived ws (rowCount r) (r .owed)
 
   abbrev key-at : ℕ → ℕ
-  key-at = keyWith key r next owed
+  key-at = keyWith key r next due owed
 
   ticked-ran : (ran : Ran) (late : Late) → tickedBy key r ws .answer ≡ Ticked ran late → goesTo key-at owed (r .«task_count») (r .«handler_count») ≡ ran
   unfolding tickedBy

@@ -10,20 +10,21 @@ use Rattle.demand.proofs.Refused.{refusal-in-range, refusal-whole}
 use Rattle.demand.proofs.Slices.{rows-count}
 use Rattle.demand.specs.Refusals.{tableRefusal, InRange}
 use Rattle.demand.specs.Rows.{tasksOf, handlersOf}
+use Rattle.demand.specs.declared.readable.Kind.the-variants.{Task, Handler}
 use Rattle.scheduler.specs.Runs.{runOf}
 use Rattle.scheduler.specs.Start.{padded, zeros, freshRun, noRun, freshOf}
 use Rattle.scheduler.specs.declared.Late.the-variants.{Nobody}
 use Rattle.scheduler.specs.declared.Start.the-variants.{Ready, Refused}
 
 pub record Whole (t h : List ℕ) : Type 0 where
-  pub tasks : length t ≡ 2 * length (tasksOf t)
+  pub tasks : length t ≡ 3 * length (tasksOf t)
   pub handlers : length h ≡ 2 * length (handlersOf h)
   pub in-range : InRange (tasksOf t) (handlersOf h)
 
 pub whole : (t h : List ℕ) → tableRefusal t h ≡ 0 → Whole t h
 whole t h e = let counts = refusal-whole t h e in record { tasks = counts .0; handlers = counts .1; in-range = refusal-in-range t h e }
 
-pub tasks-fit : (t h : List ℕ) → tableRefusal t h ≡ 0 → length t ≤ 128
+pub tasks-fit : (t h : List ℕ) → tableRefusal t h ≡ 0 → length t ≤ 192
 tasks-fit t h e = let w = whole t h e in omega (arith, w .tasks, w .in-range .tasks-most)
 
 pub handlers-fit : (t h : List ℕ) → tableRefusal t h ≡ 0 → length h ≤ 32
@@ -36,13 +37,13 @@ drop-replicate zero n = let e : n - 0 ≡ n = omega arith in rw e
 drop-replicate (suc k) zero = let e : 0 - suc k ≡ 0 = omega arith in rw e
 drop-replicate (suc k) (suc n) = let e : suc n - suc k ≡ n - k = omega arith in rw e (drop-replicate k n)
 
-pub fresh-made : (t h ts hs : List ℕ) → ts ≡ t ++ drop (length t) (replicate 128 0) → hs ≡ h ++ drop (length h) (replicate 32 0)
-    → runOf ts hs (length t / 2) (length h / 2) 0 zeros zeros false Nobody ≡ freshRun t h
+pub fresh-made : (t h ts hs : List ℕ) → ts ≡ t ++ drop (length t) (replicate 192 0) → hs ≡ h ++ drop (length h) (replicate 32 0)
+    → runOf ts hs (length t / 3) (length h / 2) 0 (zeros 80) (zeros 64) (zeros 80) false Nobody ≡ freshRun t h
 unfolding freshRun padded
 fresh-made t h ts hs et eh =
-    let nt = rows-count t in
-    let nh = rows-count h in
-    rw (et, eh, nt, nh, drop-replicate (length t) 128, drop-replicate (length h) 32)
+    let nt = rows-count Task t in
+    let nh = rows-count Handler h in
+    rw (et, eh, nt, nh, drop-replicate (length t) 192, drop-replicate (length h) 32)
 
 pub fresh-ready : (t h : List ℕ) → tableRefusal t h ≡ 0 → freshOf t h ≡ record { run = freshRun t h; answer = Ready }
 unfolding freshOf

@@ -7,21 +7,21 @@ use lib.ListN.{length}
 use Rattle.scheduler.specs.Machine.{dueOf}
 use Rattle.scheduler.specs.Runs.{rowIn, rowCount}
 use Rattle.scheduler.specs.Scans.{at}
-use Rattle.scheduler.specs.Tick.{nextArrived, owedArrived, goesTo, paid, lateRow, isTask, closed, tickedBy}
+use Rattle.scheduler.specs.Tick.{nextArrived, dueArrived, owedArrived, goesTo, paid, lateRow, isTask, closed, tickedBy}
 use Rattle.scheduler.specs.declared.Late.{Late}
 use Rattle.scheduler.specs.declared.Ran.{Ran}
 use Rattle.scheduler.specs.declared.Run.{Run}
-use Rattle.scheduler.proofs.Steps.Clauses.{due-next}
 
 -- Each of its results is what the last ones make it.
-pub tick-made : (r : Run) (ws next owed owed' : List ℕ) (ran : Ran) (late : Late) (over : Bool) → length ws ≡ rowCount r
+pub tick-made : (r : Run) (ws next due owed owed' : List ℕ) (ran : Ran) (late : Late) (over : Bool) → length ws ≡ rowCount r
     → next ≡ nextArrived (r .clock) (rowIn r) ws (length ws) (r .next)
+    → due ≡ dueArrived (r .clock) (rowIn r) ws (r .«task_count») (r .due)
     → owed ≡ owedArrived ws (length ws) (r .owed)
-    → ran ≡ goesTo (at next) owed (r .«task_count») (r .«handler_count»)
+    → ran ≡ goesTo (at due) owed (r .«task_count») (r .«handler_count»)
     → owed' ≡ paid owed (r .«task_count») ran
-    → late ≡ lateRow (r .clock + 1) (at next) owed' (r .«task_count»)
+    → late ≡ lateRow (r .clock + 1) (at due) owed' (r .«task_count»)
     → over ≡ isTask late
-    → closed r next owed' ran over late ≡ tickedBy dueOf r ws
+    → closed r next due owed' ran over late ≡ tickedBy dueOf r ws
 unfolding tickedBy
-tick-made r ws next owed owed' ran late over count en eo er ep el ev =
-    rw (ev, ← count, ← en, ← eo, due-next r next, ← er, ← ep, ← el)
+tick-made r ws next due owed owed' ran late over count en ed eo er ep el ev =
+    rw (ev, ← count, ← en, ← ed, ← eo, ← er, ← ep, ← el)

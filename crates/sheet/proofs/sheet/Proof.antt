@@ -16,17 +16,17 @@ returns c = broken-sheet _ _ _ (c .before .before .read .ensures) (not-true _ (c
 array-share-prefix-task-numbers : tie.Need-array-share-prefix-task-numbers
 array-share-prefix-task-numbers c = read-counted _ _ (c .before .before .before .before .before .read .ensures) .0 .0
 
-slice-aggregate-verdict : tie.Need-slice-aggregate-verdict
-slice-aggregate-verdict c = read-counted _ _ (c .before .before .before .before .before .before .read .ensures) .0 .1
+slice-aggregate-answer : tie.Need-slice-aggregate-answer
+slice-aggregate-answer c = read-counted _ _ (c .before .before .before .before .before .before .read .ensures) .0 .1
 
 array-share-prefix-handler-numbers : tie.Need-array-share-prefix-handler-numbers
 array-share-prefix-handler-numbers c = read-counted _ _ (c .before .before .before .before .before .before .read .ensures) .1 .0
 
-slice-aggregate-verdict-2 : tie.Need-slice-aggregate-verdict-2
-slice-aggregate-verdict-2 c = read-counted _ _ (c .before .before .before .before .before .before .before .read .ensures) .1 .1
+slice-aggregate-answer-2 : tie.Need-slice-aggregate-answer-2
+slice-aggregate-answer-2 c = read-counted _ _ (c .before .before .before .before .before .before .before .read .ensures) .1 .1
 
-verdict-requires : tie.Need-verdict-requires
-verdict-requires c κs = search needs
+answer-requires : tie.Need-answer-requires
+answer-requires c κs = search needs
 
 written-requires-2 : tie.Need-written-requires-2
 written-requires-2 c κs = search needs
@@ -35,7 +35,7 @@ returns-2 : tie.Need-returns-2
 returns-2 c =
     let read = c .before .before .before .before .before .before .before .before .before .read .ensures in
     let ok = not-false _ (c .before .before .before .before .before .before .before .before .if1 .left) in
-    table-sheet _ _ _ read ok _ (c .before .verdict .ensures) (c .written2 .ensures)
+    table-sheet _ _ _ read ok _ (c .before .answer .ensures) (c .written2 .ensures)
 
 pub sheet-spec : {M : Type 1} → statement M
 sheet-spec =
@@ -45,9 +45,9 @@ sheet-spec =
     written-requires
     returns
     array-share-prefix-task-numbers
-    slice-aggregate-verdict
+    slice-aggregate-answer
     array-share-prefix-handler-numbers
-    slice-aggregate-verdict-2
-    verdict-requires
+    slice-aggregate-answer-2
+    answer-requires
     written-requires-2
     returns-2)

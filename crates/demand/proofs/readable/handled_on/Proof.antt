@@ -3,8 +3,10 @@ use native.Mathlib.Omega.{arith}
 use Prim.Native.Nat.{_≤_, _-_}
 use Rattle.demand.specs.Demands.{handled}
 use Rattle.demand.specs.Rows.{handlersOf}
+use Rattle.demand.proofs.Between.{plain-valid}
 use Rattle.demand.proofs.Demands.{handled-le}
 use Rattle.demand.proofs.Sizes.{fair-positive, small-less}
+use Rattle.demand.proofs.Slices.{handlers-plain}
 use Rattle.demand.proofs.Walks.{next-above, next-within, walk-busy, walk-idle}
 use Rattle.demand.proofs.readable.handled_on.Statement.{statement}
 use Rattle.demand.proofs.readable.handled_on.Tie as tie
@@ -51,23 +53,23 @@ loop-again c = (
   walk-busy _ _ _ _ _ _ (c .before .before .before .before .loop .inv .1) (c .before .before .called .ensures) (c .before .if1 .taken) (c .lesser .ensures),
 )
 
-next-multiple-requires : tie.Need-next-multiple-requires Inv-loop μ-loop
-next-multiple-requires c κs = small-less _ _ _ (omega arith) (c .before .before .before .before .before .pre .0)
+next-deadline-requires : tie.Need-next-deadline-requires Inv-loop μ-loop
+next-deadline-requires c κs = small-less _ _ _ (omega arith) (c .before .before .before .before .before .pre .0)
 
 loop-less-2 : tie.Need-loop-less-2 Inv-loop μ-loop
 loop-less-2 c =
     let start = c .before .before .before .before .before .before in
     let hs = handlersOf (start .args .handlers .now) in
-    let above = next-above hs _ _ (fair-positive hs (start .pre .0 .rows)) (c .before .before .before .loop-test .taken) in
-    omega (arith, c .next-multiple .ensures, above)
+    let above = next-above hs _ _ (plain-valid hs (handlers-plain (start .args .handlers .now)) (fair-positive hs (start .pre .0 .rows))) (c .before .before .before .loop-test .taken) in
+    omega (arith, c .next-deadline .ensures, above)
 
 loop-again-2 : tie.Need-loop-again-2 Inv-loop μ-loop
 loop-again-2 c =
     let start = c .before .before .before .before .before .before in
     let turn = c .before .before .before .before .loop in
     let hs = handlersOf (start .args .handlers .now) in (
-      omega (arith, c .next-multiple .ensures, next-within hs (turn .at) (start .args .m)),
-      walk-idle hs _ _ _ _ _ (fair-positive hs (start .pre .0 .rows)) (c .before .before .before .loop-test .taken) (turn .inv .1) (c .before .before .called .ensures) (c .before .if1 .left) (c .next-multiple .ensures),
+      omega (arith, c .next-deadline .ensures, next-within hs (turn .at) (start .args .m)),
+      walk-idle hs _ _ _ _ _ (handlers-plain (start .args .handlers .now)) (fair-positive hs (start .pre .0 .rows)) (c .before .before .before .loop-test .taken) (turn .inv .1) (c .before .before .called .ensures) (c .before .if1 .left) (c .next-deadline .ensures),
     )
 
 returns : tie.Need-returns Inv-loop μ-loop
@@ -91,7 +93,7 @@ handled-on-spec =
     add-at
     loop-less
     loop-again
-    next-multiple-requires
+    next-deadline-requires
     loop-less-2
     loop-again-2
     returns)

@@ -30,14 +30,14 @@ mul-old c = search needs
 element-copy-out-old : tie.Need-element-copy-out-old Inv-loop μ-loop
 element-copy-out-old c = search needs
 
-mul-next-after : tie.Need-mul-next-after Inv-loop μ-loop
-mul-next-after c = search needs
+mul-ahead : tie.Need-mul-ahead Inv-loop μ-loop
+mul-ahead c = search needs
 
-shared-slice-read-next-after : tie.Need-shared-slice-read-next-after Inv-loop μ-loop
-shared-slice-read-next-after c = search needs
+shared-slice-read-ahead : tie.Need-shared-slice-read-ahead Inv-loop μ-loop
+shared-slice-read-ahead c = search needs
 
-next-after-requires : tie.Need-next-after-requires Inv-loop μ-loop
-next-after-requires c κs =
+ahead-requires : tie.Need-ahead-requires Inv-loop μ-loop
+ahead-requires c κs =
     let x = c .before .before .before .before .before .before .args in
     let fair = fair-at (rowOn (x .tasks .now) (x .handlers .now) (x .n)) (x .n + x .m) (c .before .before .before .before .loop .k) (c .before .before .before .before .before .before .pre .2) (search needs) in
     omega (arith, fair .period .most, ap (λ (r : Row). r .period) (c .before .before .row-at .ensures))
@@ -55,7 +55,7 @@ loop-less : tie.Need-loop-less Inv-loop μ-loop
 loop-less c = search needs
 
 loop-again : tie.Need-loop-again Inv-loop μ-loop
-loop-again c = (search needs, filled-turn _ _ _ _ _ (c .before .before .before .before .before .loop .inv .1) (c .next-after .ensures ∙ simp (ap (λ (r : Row). r .period) (c .before .before .before .row-at .ensures), filled-old _ _ _ _ (c .before .before .before .before .before .loop .inv .1))))
+loop-again c = (search needs, filled-turn _ _ _ _ _ (c .before .before .before .before .before .loop .inv .1) (c .ahead .ensures ∙ simp (ap (λ (r : Row). r .period) (c .before .before .before .row-at .ensures), filled-old _ _ _ _ (c .before .before .before .before .before .loop .inv .1))))
 
 returns : tie.Need-returns Inv-loop μ-loop
 unfolding nextArrived
@@ -71,9 +71,9 @@ move-next-spec =
     row-at-requires
     mul-old
     element-copy-out-old
-    mul-next-after
-    shared-slice-read-next-after
-    next-after-requires
+    mul-ahead
+    shared-slice-read-ahead
+    ahead-requires
     mul-next
     element-write-next
     add-k

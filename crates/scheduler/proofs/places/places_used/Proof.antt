@@ -20,14 +20,17 @@ add-used-ticks c = search needs
 used-ticks-requires : tie.Need-used-ticks-requires
 used-ticks-requires c κs = search needs
 
-add-used-ticks-2 : tie.Need-add-used-ticks-2
-add-used-ticks-2 c = search needs
-
 used-ticks-requires-2 : tie.Need-used-ticks-requires-2
 used-ticks-requires-2 c κs = search needs
 
+add-used-ticks-2 : tie.Need-add-used-ticks-2
+add-used-ticks-2 c = search needs
+
+used-ticks-requires-3 : tie.Need-used-ticks-requires-3
+used-ticks-requires-3 c κs = search needs
+
 returns : tie.Need-returns
-returns c = rw (c .before .before .before .before .before .before .used-numbers .ensures, c .before .before .before .before .used-numbers2 .ensures, c .before .before .used-ticks .ensures, c .used-ticks2 .ensures)
+returns c = rw (c .before .before .before .before .before .before .before .before .used-numbers .ensures, c .before .before .before .before .before .before .used-numbers2 .ensures, c .before .before .before .before .used-ticks .ensures, c .before .before .used-ticks2 .ensures, c .used-ticks3 .ensures)
 
 pub places-used-spec : {M : Type 1} → statement M
 places-used-spec =
@@ -39,6 +42,7 @@ places-used-spec =
     used-numbers-requires-2
     add-used-ticks
     used-ticks-requires
-    add-used-ticks-2
     used-ticks-requires-2
+    add-used-ticks-2
+    used-ticks-requires-3
     returns)

@@ -4,10 +4,10 @@ use Rattle.sheet.proofs.layout.at_end.Statement.{statement}
 use Rattle.sheet.proofs.layout.at_end.Tie as tie
 
 returns : tie.Need-returns
-returns c = search (needs, eq-eqb)
+returns c = λ _. search (needs, eq-eqb)
 
 returns-2 : tie.Need-returns-2
-returns-2 c = search (needs, ne-eqb)
+returns-2 c = λ _. search (needs, ne-eqb)
 
 pub at-end-spec : {M : Type 1} → statement M
 at-end-spec = tie.close (tie.spec returns returns-2)

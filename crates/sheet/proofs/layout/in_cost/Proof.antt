@@ -11,13 +11,13 @@ extended-requires : tie.Need-extended-requires
 extended-requires c κs = sym (c .before .continues .ensures) ∙ c .if2 .taken
 
 returns : tie.Need-returns
-returns c = simp (eq-eqb _ _ (c .if1 .taken))
+returns c = λ _. simp (eq-eqb _ _ (c .if1 .taken))
 
 returns-2 : tie.Need-returns-2
-returns-2 c = simp (ne-eqb _ _ (c .before .before .before .if1 .left), sym (c .before .before .continues .ensures) ∙ c .before .if2 .taken, c .extended .ensures)
+returns-2 c = λ _. simp (ne-eqb _ _ (c .before .before .before .if1 .left), sym (c .before .before .continues .ensures) ∙ c .before .if2 .taken, c .extended .ensures)
 
 returns-3 : tie.Need-returns-3
-returns-3 c = simp (ne-eqb _ _ (c .before .before .if1 .left), sym (c .before .continues .ensures) ∙ c .if2 .left)
+returns-3 c = λ _. simp (ne-eqb _ _ (c .before .before .if1 .left), sym (c .before .continues .ensures) ∙ c .if2 .left)
 
 pub in-cost-spec : {M : Type 1} → statement M
 in-cost-spec =

@@ -53,6 +53,18 @@ enum-known-st-6 c = search needs
 in-period-requires : tie.Need-in-period-requires
 in-period-requires c κs = search needs
 
+enum-known-st-7 : tie.Need-enum-known-st-7
+enum-known-st-7 c = search needs
+
+in-third-requires : tie.Need-in-third-requires
+in-third-requires c κs = search needs
+
+enum-known-st-8 : tie.Need-enum-known-st-8
+enum-known-st-8 c = search needs
+
+in-deadline-requires : tie.Need-in-deadline-requires
+in-deadline-requires c κs = search needs
+
 enum-told-4 : tie.Need-enum-told-4
 enum-told-4 c = search needs
 
@@ -66,28 +78,34 @@ returns-2 : tie.Need-returns-2
 returns-2 c = rw (c .before .before .st .given .1) (c .in-head .ensures)
 
 returns-3 : tie.Need-returns-3
-returns-3 c = rw (c .before .enum-told2 .given .1) (c .at-end .ensures)
+returns-3 c = rw (c .before .enum-told2 .given .1) (c .at-end .ensures (c .before .before .before .args .columns))
 
 returns-4 : tie.Need-returns-4
-returns-4 c = rw (c .before .enum-told3 .given .1) (c .at-start .ensures)
+returns-4 c = rw (c .before .enum-told3 .given .1) (c .at-start .ensures (c .before .before .before .args .columns))
 
 returns-5 : tie.Need-returns-5
-returns-5 c = rw (c .before .before .st2 .given .1) (c .in-name .ensures)
+returns-5 c = rw (c .before .before .st2 .given .1) (c .in-name .ensures (c .before .before .before .before .args .columns))
 
 returns-6 : tie.Need-returns-6
-returns-6 c = rw (c .before .before .st3 .given .1) (c .in-first .ensures)
+returns-6 c = rw (c .before .before .st3 .given .1) (c .in-first .ensures (c .before .before .before .before .args .columns))
 
 returns-7 : tie.Need-returns-7
-returns-7 c = rw (c .before .before .st4 .given .1) (c .in-cost .ensures)
+returns-7 c = rw (c .before .before .st4 .given .1) (c .in-cost .ensures (c .before .before .before .before .args .columns))
 
 returns-8 : tie.Need-returns-8
-returns-8 c = rw (c .before .before .st5 .given .1) (c .in-second .ensures)
+returns-8 c = rw (c .before .before .st5 .given .1) (c .in-second .ensures (c .before .before .before .before .args .columns))
 
 returns-9 : tie.Need-returns-9
 returns-9 c = rw (c .before .before .st6 .given .1) (c .in-period .ensures)
 
 returns-10 : tie.Need-returns-10
-returns-10 c = rw (c .before .enum-told4 .given .1) (c .at-end2 .ensures)
+returns-10 c = rw (c .before .before .st7 .given .1) (c .in-third .ensures (c .before .before .before .before .args .columns))
+
+returns-11 : tie.Need-returns-11
+returns-11 c = rw (c .before .before .st8 .given .1) (c .in-deadline .ensures (c .before .before .before .before .args .columns))
+
+returns-12 : tie.Need-returns-12
+returns-12 c = rw (c .before .enum-told4 .given .1) (c .at-end2 .ensures (c .before .before .before .args .columns))
 
 pub step-spec : {M : Type 1} → statement M
 step-spec =
@@ -110,6 +128,10 @@ step-spec =
     in-second-requires
     enum-known-st-6
     in-period-requires
+    enum-known-st-7
+    in-third-requires
+    enum-known-st-8
+    in-deadline-requires
     enum-told-4
     at-end-requires-2
     returns
@@ -121,4 +143,6 @@ step-spec =
     returns-7
     returns-8
     returns-9
-    returns-10)
+    returns-10
+    returns-11
+    returns-12)

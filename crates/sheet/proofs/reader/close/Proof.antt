@@ -1,76 +1,59 @@
-use mathlib.Core.List.{[], _∷_}
-use mathlib.Core.Path.{_≡_, refl, sym, _∙_}
-use borrow.Author.Tests.{lt-ltb, le-ltb}
-use denote.Enum.Declared.{tagOf}
-use types.Run.{OneOf, miss}
-use Rattle.sheet.specs.Building.{closed}
+use mathlib.Core.Bool.{Bool}
+use mathlib.Core.Path.{sym, ap, _∙_}
+use Rattle.demand.specs.Tests.{pick}
 use Rattle.sheet.specs.Table.{brokenTable}
-use Rattle.sheet.specs.declared.layout.State.{State}
-use Rattle.sheet.specs.declared.layout.State.the-variants.{Broken, Head, HeadCr, Start, Name, CostFirst, Cost, PeriodFirst, Period, RowCr}
-use Rattle.sheet.specs.declared.reader.Table.{Table}
-use Rattle.sheet.proofs.layout.State.{the-type}
+use Rattle.sheet.proofs.Builds.{closed-short, closed-full}
 use borrow.Author.Needs.{needs}
 use Rattle.sheet.proofs.reader.close.Statement.{statement}
 use Rattle.sheet.proofs.reader.close.Tie as tie
 
--- The states at which no file may end.
-lost : (t : Table) (st : State) → OneOf (0 ∷ 2 ∷ 4 ∷ 5 ∷ 6 ∷ 7 ∷ 9 ∷ []) (tagOf the-type st) → closed t st ≡ brokenTable
-lost t Broken h = refl
-lost t (Head k) h = absurd (miss (0 ∷ 2 ∷ 4 ∷ 5 ∷ 6 ∷ 7 ∷ 9 ∷ []) 1 tt h)
-lost t HeadCr h = refl
-lost t Start h = absurd (miss (0 ∷ 2 ∷ 4 ∷ 5 ∷ 6 ∷ 7 ∷ 9 ∷ []) 3 tt h)
-lost t (Name kind k) h = refl
-lost t (CostFirst kind) h = refl
-lost t (Cost kind v) h = refl
-lost t (PeriodFirst kind c) h = refl
-lost t (Period kind c v) h = absurd (miss (0 ∷ 2 ∷ 4 ∷ 5 ∷ 6 ∷ 7 ∷ 9 ∷ []) 8 tt h)
-lost t (RowCr kind c v) h = refl
+step-requires : tie.Need-step-requires
+step-requires c κs = search needs
 
-enum-known-st : tie.Need-enum-known-st
-enum-known-st c = search needs
+step-requires-2 : tie.Need-step-requires-2
+step-requires-2 c κs = search needs
+
+is-start-requires : tie.Need-is-start-requires
+is-start-requires c κs = search needs
+
+feed-requires : tie.Need-feed-requires
+feed-requires c κs = search needs
+
+is-start-requires-2 : tie.Need-is-start-requires-2
+is-start-requires-2 c κs = search needs
 
 bare-requires : tie.Need-bare-requires
 bare-requires c κs = search needs
 
-enum-told : tie.Need-enum-told
-enum-told c = search needs
-
-enum-known-st-2 : tie.Need-enum-known-st-2
-enum-known-st-2 c = search needs
-
-push-requires : tie.Need-push-requires
-push-requires c κs = search needs
-
-bare-requires-2 : tie.Need-bare-requires-2
-bare-requires-2 c κs = search needs
-
 returns : tie.Need-returns
-returns c = rw (c .before .before .before .st .given .1) (simp (lt-ltb _ _ (c .before .if1 .taken)) (c .bare .ensures))
+returns c =
+    let start = c .before .before .before .before .before .args in
+    closed-short (start .columns) (start .t) _ (start .st) _ _ (c .before .before .before .before .step .ensures) (c .before .before .before .step2 .ensures) (sym (c .before .before .is-start .ensures) ∙ c .before .if1 .taken) (c .feed .ensures)
 
 returns-2 : tie.Need-returns-2
-returns-2 c = rw (c .before .before .st .given .1) (simp (le-ltb _ _ (c .if1 .left)))
+returns-2 c =
+    let start = c .before .before .before .before .before .before .args in
+    closed-full (start .columns) (start .t) _ (start .st) _ _ (c .before .before .before .before .before .step .ensures) (c .before .before .before .before .step2 .ensures)
+    (sym (c .before .before .before .is-start .ensures) ∙ c .before .before .if1 .left)
+    (sym (ap (λ (b : Bool). pick b (start .t) brokenTable) (sym (c .before .is-start2 .ensures) ∙ c .if2 .taken)))
 
 returns-3 : tie.Need-returns-3
-returns-3 c = search needs
-
-returns-4 : tie.Need-returns-4
-returns-4 c = rw (c .before .before .st2 .given .1) (c .push .ensures)
-
-returns-5 : tie.Need-returns-5
-returns-5 c = c .bare2 .ensures ∙ sym (lost (c .before .before .args .t) (c .before .before .args .st) (c .before .match .keys4))
+returns-3 c =
+    let start = c .before .before .before .before .before .before .before .args in
+    closed-full (start .columns) (start .t) _ (start .st) _ _ (c .before .before .before .before .before .before .step .ensures) (c .before .before .before .before .before .step2 .ensures)
+    (sym (c .before .before .before .before .is-start .ensures) ∙ c .before .before .before .if1 .left)
+    (c .bare .ensures ∙ sym (ap (λ (b : Bool). pick b (start .t) brokenTable) (sym (c .before .before .is-start2 .ensures) ∙ c .before .if2 .left)))
 
 pub close-spec : {M : Type 1} → statement M
 close-spec =
     tie.close
     (tie.spec
-    enum-known-st
+    step-requires
+    step-requires-2
+    is-start-requires
+    feed-requires
+    is-start-requires-2
     bare-requires
-    enum-told
-    enum-known-st-2
-    push-requires
-    bare-requires-2
     returns
     returns-2
-    returns-3
-    returns-4
-    returns-5)
+    returns-3)

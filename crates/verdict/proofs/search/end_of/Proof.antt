@@ -1,5 +1,3 @@
-use native.Mathlib.Nat.{mul-le-mul, mul-pos}
-use Prim.Native.Nat.{_*_, _≤_}
 use native.Mathlib.Omega.{arith}
 use borrow.Author.Tests.{eq-eqb, ne-eqb, lt-ltb, le-ltb}
 use Rattle.verdict.specs.Facts.{endBy}
@@ -19,14 +17,8 @@ returns-3 : tie.Need-returns-3
 unfolding endBy
 returns-3 c = simp (le-ltb _ _ (c .before .before .if1 .left), ne-eqb _ _ (c .before .if2 .left), eq-eqb _ _ (c .if3 .taken))
 
-mul-last : tie.Need-mul-last
-mul-last c =
-    let x = c .before .before .before in
-    let product : x .args .e * x .args .h ≤ 1000000000 * 1000000000 = mul-le-mul (x .pre .2) (x .pre .1) in
-    omega arith
-
 sub-last : tie.Need-sub-last
-sub-last c = let x = c .before .before .before in mul-pos {m = x .args .e} {n = x .args .h} (omega arith) (x .pre .0)
+sub-last c = search needs
 
 div-last : tie.Need-div-last
 div-last c = search needs
@@ -41,4 +33,4 @@ returns-5 c = simp (le-ltb _ _ (c .before .before .before .if1 .left), ne-eqb _ 
 
 pub end-of-spec : {M : Type 1} → statement M
 end-of-spec =
-    tie.close (tie.spec returns returns-2 returns-3 mul-last sub-last div-last returns-4 returns-5)
+    tie.close (tie.spec returns returns-2 returns-3 sub-last div-last returns-4 returns-5)

@@ -6,7 +6,6 @@ use Rattle.demand.specs.Rows.{tasksOf, handlersOf}
 use Rattle.demand.proofs.Demands.{handled-zero, handled-le}
 use Rattle.demand.proofs.Refused.{asked-zero}
 use Rattle.demand.proofs.Sizes.{tasks-small, tasks-valid, due-most}
-use Rattle.demand.proofs.Sums.{valid-positive}
 use Rattle.demand.proofs.Walks.{next-above}
 use Rattle.verdict.specs.Facts.{PassesTo, FoundSays}
 use Rattle.verdict.proofs.Searching.{passes-start, passes-out, passes-on, fails-first}
@@ -42,7 +41,7 @@ handled-requires c κs =
     let start = c .before .before .before .before .before .before in
     let turn = c .before .before .before .loop in
     let ts = tasksOf (start .args .tasks .now) in
-    let above = next-above ts (turn .l) (start .args .end + 1) (valid-positive ts (tasks-valid _ _ (start .pre .0))) (omega arith) in
+    let above = next-above ts (turn .l) (start .args .end + 1) (tasks-valid _ _ (start .pre .0)) (omega arith) in
     (asked-zero _ _ _ (start .pre .0) (omega (arith, start .pre .1)), (omega (arith, above, c .before .next-length .ensures), turn .inv .1))
 
 due-requires : tie.Need-due-requires Inv-loop μ-loop
@@ -72,7 +71,7 @@ loop-less c =
     let start = c .before .before .before .before .before .before .before .before .before in
     let turn = c .before .before .before .before .before .before .loop in
     let ts = tasksOf (start .args .tasks .now) in
-    let above = next-above ts (turn .l) (start .args .end + 1) (valid-positive ts (tasks-valid _ _ (start .pre .0))) (omega arith) in
+    let above = next-above ts (turn .l) (start .args .end + 1) (tasks-valid _ _ (start .pre .0)) (omega arith) in
     omega (arith, above, c .before .before .before .before .next-length .ensures)
 
 loop-again : tie.Need-loop-again Inv-loop μ-loop
