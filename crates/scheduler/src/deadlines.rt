@@ -3,7 +3,7 @@ ghost use mathlib.Core.Bool.{false, _||_};
 ghost use mathlib.Core.Path.{_≡_};
 ghost use Prim.Native.Nat.{_+_, _≤_};
 ghost use Rattle.demand.specs.Limits.{ticksMost};
-ghost use Rattle.scheduler.specs.Bounds.{outsideAt, deadlineOutsideAt, dueFar, dueBehind, passed, missed};
+ghost use Rattle.scheduler.specs.Bounds.{outsideAt, deadlineOutsideAt, dueFar, dueBehind, earliestDue, missed};
 ghost use Rattle.scheduler.specs.Runs.{rowOn, Fitting};
 ghost use Rattle.scheduler.specs.Scans.{at, any};
 use crate::rows;
@@ -28,10 +28,12 @@ pub fn deadlines_outside<'a>(
     bad
 }
 
-fn passed(over: bool, clock: u64, due: u64) -> bool
-    ensures { λ r. ⌜ r ≡ passed over clock due ⌝ }
+// The earliest deadline that has not passed: the clock where the run is over, else the tick behind it.
+fn earliest_due(over: bool, clock: u64) -> u64
+    requires { ⌜ clock ≤ ticksMost ⌝ }
+    ensures { λ r. ⌜ r ≡ earliestDue over clock ⌝ }
 {
-    if over { due < clock } else { due <= clock }
+    if over { clock } else { clock + 1 }
 }
 
 // Is a task's deadline above clock + the row's own, or after its next arrival, or passed where the task is owed work? One pass
@@ -50,6 +52,7 @@ pub fn deadlines_out<'a>(
     requires { ⌜ Fitting n m × (clock ≤ ticksMost) × (any (outsideAt (rowOn (now tasks) (now handlers) n)) (n + m) ≡ false) × (any (deadlineOutsideAt (rowOn (now tasks) (now handlers) n)) n ≡ false) ⌝ }
     ensures { λ r. ⌜ r ≡ (any (dueFar clock (rowOn (now (tasks .entry)) (now (handlers .entry)) n) (now (due .entry))) n || any (dueBehind (now (next .entry)) (now (due .entry))) n || any (missed over clock (at (now (due .entry))) (now (owed .entry))) n) ⌝ }
 {
+    let first = earliest_due(over, clock);
     let mut far = false;
     let mut behind = false;
     let mut missed = false;
@@ -59,8 +62,7 @@ pub fn deadlines_out<'a>(
         let end = due[k];
         far = far | (clock + row.deadline < end);
         behind = behind | (next[k] < end);
-        let past = passed(over, clock, end);
-        missed = missed | ((0 < owed[k]) & past);
+        missed = missed | ((0 < owed[k]) & (end < first));
         k += 1;
     }
     far | behind | missed

@@ -5,15 +5,15 @@ use mathlib.Core.Logic.{_⊎_, inl, inr}
 use mathlib.Core.Path.{_≡_, refl}
 use native.Mathlib.Nat.{mul-le-mul}
 use native.Mathlib.Omega.{arith}
-use borrow.Author.Tests.{ltb-false, leb-false, le-ltb, lt-ltb}
+use borrow.Author.Tests.{ltb-false, leb-false, le-ltb, lt-ltb, le-leb, lt-leb}
 use Prim.Native.Nat.{ℕ, _+_, _-_, _*_, _≤_, _<_}
-use lib.Dec.{ltb, eqb}
+use lib.Dec.{ltb, leb, eqb}
 use lib.ListN.{getD}
 use Rattle.demand.proofs.Divide.{le-or-lt}
 use Rattle.demand.specs.Limits.{tasksMost, handlersMost, ticksMost}
 use Rattle.demand.specs.Refusals.{FairRow}
 use Rattle.demand.specs.Rows.{Sound}
-use Rattle.scheduler.specs.Bounds.{miscounts, outsideAt, deadlineOutsideAt, tableRefused, placesUsed, clockPast, tooFar, nextTooFar, tooMuch, taskTooMuch, tooMuchBehind, handlerTooMuch, dueFar, dueTooFar, dueBehind, dueAfterNext, missed, deadlineMissed, lateWrong, lateNamed, outOfBounds, InBounds}
+use Rattle.scheduler.specs.Bounds.{miscounts, outsideAt, deadlineOutsideAt, tableRefused, placesUsed, clockPast, tooFar, nextTooFar, tooMuch, taskTooMuch, tooMuchBehind, handlerTooMuch, dueFar, dueTooFar, dueBehind, dueAfterNext, earliestDue, passed, missed, deadlineMissed, lateWrong, lateNamed, outOfBounds, InBounds}
 use Rattle.scheduler.specs.Runs.{rowIn, rowCount, Fitting}
 use Rattle.scheduler.specs.Scans.{at, any}
 use Rattle.scheduler.specs.declared.Run.{Run}
@@ -84,6 +84,15 @@ module _ (r : Run) where
   unfolding outOfBounds
   in-bounds c =
       simp (c .counts, c .figures, c .own, c .places, c .clock, c .next, c .tasks, c .handlers, c .due, c .ordered, c .deadlines, c .late, c .named)
+
+-- Passed is before the earliest deadline that has not.
+pub passed-before : (over : Bool) (clock due : ℕ) → ltb due (earliestDue over clock) ≡ passed over clock due
+passed-before true clock due = refl
+passed-before false clock due = go (le-or-lt due clock)
+  where
+    go : (due ≤ clock) ⊎ (clock < due) → ltb due (clock + 1) ≡ leb due clock
+    go (inl h) = rw (lt-ltb due (clock + 1) (omega arith), le-leb due clock h)
+    go (inr h) = rw (le-ltb due (clock + 1) (omega arith), lt-leb due clock h)
 
 -- ---- the code's answers, one after the other
 
