@@ -43,9 +43,28 @@ pub fn some_heavy<'a>(
     requires { ⌜ Fitting n m × (length (now arrivals) ≡ n + m) ⌝ }
     ensures { λ r. ⌜ r ≡ any (heavy (rowOn (now (tasks .entry)) (now (handlers .entry)) n) (now (arrivals .entry))) (length (now (arrivals .entry))) ⌝ }
 {
-    let mut bad = false;
-    let mut k = 0;
-    while k < arrivals.len() {
+    let of_tasks = some_heavy_from(tasks, handlers, n, m, arrivals, 0, n, false);
+    some_heavy_from(tasks, handlers, n, m, arrivals, n, arrivals.len(), of_tasks)
+}
+
+// The same of the rows up to `to`, where `found` says it of those before `from`.
+fn some_heavy_from<'a>(
+    tasks: &'a [u32; 192],
+    handlers: &'a [u32; 32],
+    n: usize,
+    m: usize,
+    arrivals: &[u32],
+    from: usize,
+    to: usize,
+    found: bool,
+) -> bool
+    requires { ⌜ Fitting n m × (length (now arrivals) ≡ n + m) ⌝ }
+    requires { ⌜ (from ≤ to) × (to ≤ n + m) × (found ≡ any (heavy (rowOn (now tasks) (now handlers) n) (now arrivals)) from) ⌝ }
+    ensures { λ r. ⌜ r ≡ any (heavy (rowOn (now (tasks .entry)) (now (handlers .entry)) n) (now (arrivals .entry))) to ⌝ }
+{
+    let mut bad = found;
+    let mut k = from;
+    while k < to {
         let row = rows::row_at(tasks, handlers, n, m, k);
         let w = wide(arrivals[k]);
         bad = bad | (row.cost < w);

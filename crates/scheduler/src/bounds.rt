@@ -33,9 +33,27 @@ fn figures_outside<'a>(tasks: &'a [u32; 192], handlers: &'a [u32; 32], n: usize,
     requires { ⌜ Fitting n m ⌝ }
     ensures { λ r. ⌜ r ≡ any (outsideAt (rowOn (now (tasks .entry)) (now (handlers .entry)) n)) (n + m) ⌝ }
 {
-    let mut bad = false;
-    let mut k = 0;
-    while k < n + m {
+    let of_tasks = figures_outside_from(tasks, handlers, n, m, 0, n, false);
+    figures_outside_from(tasks, handlers, n, m, n, n + m, of_tasks)
+}
+
+// The same of the rows up to `to`, where `found` says it of those before `from`. Asked of tasks and of handlers apart, so that no
+// row need be told which it is.
+fn figures_outside_from<'a>(
+    tasks: &'a [u32; 192],
+    handlers: &'a [u32; 32],
+    n: usize,
+    m: usize,
+    from: usize,
+    to: usize,
+    found: bool,
+) -> bool
+    requires { ⌜ Fitting n m × (from ≤ to) × (to ≤ n + m) × (found ≡ any (outsideAt (rowOn (now tasks) (now handlers) n)) from) ⌝ }
+    ensures { λ r. ⌜ r ≡ any (outsideAt (rowOn (now (tasks .entry)) (now (handlers .entry)) n)) to ⌝ }
+{
+    let mut bad = found;
+    let mut k = from;
+    while k < to {
         let row = rows::row_at(tasks, handlers, n, m, k);
         bad = bad | (outside(row.cost) | outside(row.period));
         k += 1;
@@ -55,9 +73,29 @@ fn next_too_far<'a>(
     requires { ⌜ Fitting n m × (clock ≤ ticksMost) × (any (outsideAt (rowOn (now tasks) (now handlers) n)) (n + m) ≡ false) ⌝ }
     ensures { λ r. ⌜ r ≡ any (tooFar clock (rowOn (now (tasks .entry)) (now (handlers .entry)) n) (now (next .entry))) (n + m) ⌝ }
 {
-    let mut bad = false;
-    let mut k = 0;
-    while k < n + m {
+    let of_tasks = next_too_far_from(tasks, handlers, next, n, m, clock, 0, n, false);
+    next_too_far_from(tasks, handlers, next, n, m, clock, n, n + m, of_tasks)
+}
+
+// The same of the rows up to `to`, where `found` says it of those before `from`.
+fn next_too_far_from<'a>(
+    tasks: &'a [u32; 192],
+    handlers: &'a [u32; 32],
+    next: &'a [u64; 80],
+    n: usize,
+    m: usize,
+    clock: u64,
+    from: usize,
+    to: usize,
+    found: bool,
+) -> bool
+    requires { ⌜ Fitting n m × (clock ≤ ticksMost) × (any (outsideAt (rowOn (now tasks) (now handlers) n)) (n + m) ≡ false) ⌝ }
+    requires { ⌜ (from ≤ to) × (to ≤ n + m) × (found ≡ any (tooFar clock (rowOn (now tasks) (now handlers) n) (now next)) from) ⌝ }
+    ensures { λ r. ⌜ r ≡ any (tooFar clock (rowOn (now (tasks .entry)) (now (handlers .entry)) n) (now (next .entry))) to ⌝ }
+{
+    let mut bad = found;
+    let mut k = from;
+    while k < to {
         let row = rows::row_at(tasks, handlers, n, m, k);
         bad = bad | (clock + row.period < next[k]);
         k += 1;

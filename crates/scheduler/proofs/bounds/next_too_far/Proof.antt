@@ -1,68 +1,27 @@
-use mathlib.Core.Path.{_≡_, sym, ap}
+use mathlib.Core.Path.{sym}
 use native.Mathlib.Omega.{arith}
+use Rattle.scheduler.proofs.Steps.Scan.{any-zero}
 use borrow.Author.Needs.{needs}
-use Prim.Native.Nat.{_+_, _≤_, _-_}
-use Rattle.demand.specs.Rows.{Row}
-use Rattle.scheduler.specs.Bounds.{tooFar}
-use Rattle.scheduler.specs.Runs.{rowOn}
-use Rattle.scheduler.specs.Scans.{any}
-use Rattle.scheduler.proofs.Steps.RowPlaces.{fair-at}
-use Rattle.scheduler.proofs.Steps.Scan.{at-end, any-zero, any-turn}
 use Rattle.scheduler.proofs.bounds.next_too_far.Statement.{statement}
 use Rattle.scheduler.proofs.bounds.next_too_far.Tie as tie
 
-abbrev Inv-loop : tie.InvT-loop
-Inv-loop tasks handlers next n m clock bad₀ k₀ bad k = (k ≤ n + m) × (bad ≡ any (tooFar clock (rowOn tasks handlers n) next) k)
+next-too-far-from-requires : tie.Need-next-too-far-from-requires
+next-too-far-from-requires c κs = (c .pre, (omega arith, omega arith, sym (any-zero _)))
 
-abbrev μ-loop : tie.MeasureT-loop
-μ-loop tasks handlers next n m clock bad₀ k₀ bad k = n + m - k
+add-next-too-far-from : tie.Need-add-next-too-far-from
+add-next-too-far-from c = search needs
 
-loop-holds : tie.Need-loop-holds Inv-loop μ-loop
-loop-holds c = (search needs, sym (any-zero _))
+next-too-far-from-requires-2 : tie.Need-next-too-far-from-requires-2
+next-too-far-from-requires-2 c κs = search needs
 
-add-loop : tie.Need-add-loop Inv-loop μ-loop
-add-loop c = search needs
-
-row-at-requires : tie.Need-row-at-requires Inv-loop μ-loop
-row-at-requires c κs = search needs
-
-add-bad : tie.Need-add-bad Inv-loop μ-loop
-add-bad c =
-    let x = c .before .before .before .before .args in
-    let fair = fair-at (rowOn (x .tasks .now) (x .handlers .now) (x .n)) (x .n + x .m) (c .before .before .before .loop .k) (c .before .before .before .before .pre .2) (c .before .before .loop-test .taken) in
-    omega (arith, fair .period .most, ap (λ (r : Row). r .period) (c .before .row-at .ensures))
-
-mul-bad : tie.Need-mul-bad Inv-loop μ-loop
-mul-bad c = search needs
-
-element-copy-out-bad : tie.Need-element-copy-out-bad Inv-loop μ-loop
-element-copy-out-bad c = search needs
-
-add-k : tie.Need-add-k Inv-loop μ-loop
-add-k c = search needs
-
-loop-less : tie.Need-loop-less Inv-loop μ-loop
-loop-less c = search needs
-
-loop-again : tie.Need-loop-again Inv-loop μ-loop
-loop-again c = (search needs, any-turn _ _ _ _ (c .before .before .before .before .loop .inv .1) (simp (ap (λ (r : Row). r .period) (c .before .before .row-at .ensures))))
-
-returns : tie.Need-returns Inv-loop μ-loop
-returns c = at-end (any _) _ _ (c .before .loop .inv .0) (c .loop-test .left) (c .before .loop .inv .1)
+returns : tie.Need-returns
+returns c = search needs
 
 pub next-too-far-spec : {M : Type 1} → statement M
 next-too-far-spec =
     tie.close
     (tie.spec
-    Inv-loop
-    μ-loop
-    loop-holds
-    add-loop
-    row-at-requires
-    add-bad
-    mul-bad
-    element-copy-out-bad
-    add-k
-    loop-less
-    loop-again
+    next-too-far-from-requires
+    add-next-too-far-from
+    next-too-far-from-requires-2
     returns)
