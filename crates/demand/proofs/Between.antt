@@ -9,7 +9,7 @@ use native.Mathlib.Omega.{arith}
 use Prim.Native.Nat.{ℕ, suc, _+_, _*_, _/_, _≤_, _<_, min}
 use Rattle.demand.specs.Demands.{calledBy, within, dueBy, called, taken, handled, due, Passes}
 use Rattle.demand.specs.Rows.{Row, Each, Positive, Sound, Valid}
-use Rattle.demand.specs.Walk.{deadlineAfter}
+use Rattle.demand.specs.Inside.Walk.{deadlineAfter}
 use Rattle.demand.proofs.Demands.{called-mono, handled-le-called, handled-gain}
 use Rattle.demand.proofs.Divide.{jobs, ceil-until, within-jobs, jobs-plain, jobs-until, jobs-next}
 use Rattle.demand.proofs.Sums.{each-map, each-both, total-same}

@@ -5,8 +5,8 @@ use native.Mathlib.Omega.{arith}
 use Prim.Native.Nat.{ℕ, zero, suc, _*_, _<_}
 use lib.ListN.{length, take, drop}
 use Rattle.demand.specs.Rows.{Row, tasksOf, handlersOf, rowsOf, width, rowAt, Each}
-use Rattle.demand.specs.declared.readable.Kind.{Kind}
-use Rattle.demand.specs.declared.readable.Kind.the-variants.{Task, Handler}
+use Rattle.demand.specs.declared.table.Kind.{Kind}
+use Rattle.demand.specs.declared.table.Kind.the-variants.{Task, Handler}
 
 three : (n : ℕ) → 3 * suc n ≡ suc (suc (suc (3 * n)))
 three n = omega arith

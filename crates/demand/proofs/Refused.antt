@@ -13,8 +13,8 @@ use Rattle.demand.specs.Limits.{figureMost, tasksMost, handlersMost, tic
 use Rattle.demand.specs.Refusals.{uneven, miscounted, outside, rowOutside, deadlineOutside, tableThen, tableRefusal, askedRefusal, Fair, FairRow, InRange}
 use Rattle.demand.specs.Rows.{Row, rowsOf, width, tasksOf, handlersOf, some, Each, Sound, Valid}
 use Rattle.demand.specs.Tests.{refuse}
-use Rattle.demand.specs.declared.readable.Kind.{Kind}
-use Rattle.demand.specs.declared.readable.Kind.the-variants.{Task, Handler}
+use Rattle.demand.specs.declared.table.Kind.{Kind}
+use Rattle.demand.specs.declared.table.Kind.the-variants.{Task, Handler}
 use Rattle.demand.proofs.Slices.{rows-count}
 
 -- Neither of two tests holds.

@@ -9,7 +9,7 @@ use Rattle.demand.specs.Demands.{calledBy, within, dueBy, called, due}
 use Rattle.demand.specs.Limits.{ticksMost}
 use Rattle.demand.specs.Refusals.{tableRefusal, askedRefusal, FairRow}
 use Rattle.demand.specs.Rows.{Row, tasksOf, handlersOf, Each, Positive, Valid}
-use Rattle.demand.specs.Walk.{deadlineAfter, Small}
+use Rattle.demand.specs.Inside.Walk.{deadlineAfter, Small}
 use Rattle.demand.proofs.Divide.{ceil-le, within-most, within-mul}
 use Rattle.demand.proofs.Refused.{refusal-in-range, asked-in-range}
 use Rattle.demand.proofs.Sums.{each-map, total-most}

@@ -6,12 +6,11 @@ use native.Mathlib.Omega.{arith}
 use Prim.Native.Nat.{ℕ, _+_, _-_, _/_, _≤_, _<_, min}
 use lib.ListN.{length, getD, take, drop, length-drop}
 use lib.Seq.{take-all, drop-drop}
-use Rattle.demand.specs.Demands.{calledBy, dueBy, called, due}
 use Rattle.demand.specs.Refusals.{FairRow}
-use Rattle.demand.specs.Rows.{Row, tasksOf, handlersOf, rowsOf, width, total, some}
-use Rattle.demand.specs.Walk.{rest, deadlineAfter, nextDeadline, Small}
-use Rattle.demand.specs.declared.readable.Kind.{Kind}
-use Rattle.demand.specs.declared.readable.Kind.the-variants.{Task, Handler}
+use Rattle.demand.specs.Rows.{Row, tasksOf, handlersOf, rowsOf, width, total, some, Each, rest}
+use Rattle.demand.specs.Inside.Walk.{deadlineAfter, nextDeadline, Small}
+use Rattle.demand.specs.declared.table.Kind.{Kind}
+use Rattle.demand.specs.declared.table.Kind.the-variants.{Task, Handler}
 use Rattle.demand.proofs.Between.{Plain}
 
 pub width-least : (kind : Kind) → 2 ≤ width kind
@@ -83,7 +82,7 @@ from-zero s = from-is 0 s
 pub from-rest : (kind : Kind) (i : ℕ) (s : List ℕ) → rest kind (from i s) ≡ from (i + width kind) s
 from-rest kind i s = from-is (width kind) (from i s) ∙ ap (drop (width kind)) (from-is i s) ∙ drop-drop (width kind) i s ∙ sym (from-is (i + width kind) s)
 
--- The rest, where the code has the width of a row in hand.
+-- The rest, where the width of a row is in hand.
 pub from-width : (kind : Kind) (s : List ℕ) (n : ℕ) → n ≡ width kind → from n s ≡ rest kind s
 from-width kind s n e = ap (λ (m : ℕ). from m s) e
 
@@ -95,13 +94,9 @@ head-read kind s c p d h ec ep ed = rw (ec, ep, ed) (rows-head kind s h)
 -- ---- a function that goes row by row: no row is left
 
 module _ (kind : Kind) (s : List ℕ) (h : length s < width kind) where
-  pub due-short : (l : ℕ) → due (rowsOf kind s) l ≡ 0
-  unfolding due total
-  due-short l = rw (rows-short kind s h)
-
-  pub called-short : (l : ℕ) → called (rowsOf kind s) l ≡ 0
-  unfolding called total
-  called-short l = rw (rows-short kind s h)
+  pub total-short : (g : Row → ℕ) → total g (rowsOf kind s) ≡ 0
+  unfolding total
+  total-short g = rw (rows-short kind s h)
 
   pub some-short : (test : Row → Bool) → some test (rowsOf kind s) ≡ false
   unfolding some
@@ -111,26 +106,34 @@ module _ (kind : Kind) (s : List ℕ) (h : length s < width kind) where
   unfolding nextDeadline
   next-short at top = rw (rows-short kind s h)
 
--- ---- and one row and the rest
+-- ---- and one row and the rest, of which the code has the width n of a row in hand
+
+pub part-shorter : (kind : Kind) (s : List ℕ) (n : ℕ) → n ≡ width kind → n ≤ length s → length (from n s) < length s
+part-shorter kind s n w h = omega (arith, from-length n s, width-least kind)
 
 module _ (kind : Kind) (s : List ℕ) (r : Row) (e : rowsOf kind s ≡ r ∷ rowsOf kind (rest kind s)) where
-  pub due-head : (l x : ℕ) → x ≡ due (rowsOf kind (rest kind s)) l → dueBy l r + x ≡ due (rowsOf kind s) l
-  unfolding due total
-  due-head l x q = rw (e, q)
-
-  pub called-head : (l x : ℕ) → x ≡ called (rowsOf kind (rest kind s)) l → calledBy l r + x ≡ called (rowsOf kind s) l
-  unfolding called total
-  called-head l x q = rw (e, q)
-
-  pub some-head : (test : Row → Bool) (b : Bool) → b ≡ some test (rowsOf kind (rest kind s)) → (test r || b) ≡ some test (rowsOf kind s)
-  unfolding some
-  some-head test b q = rw (e, q)
-
   pub fair-head : (l : ℕ) → Small (rowsOf kind s) l → FairRow r
   fair-head l h = (rw e at h) .rows .0
 
-  pub small-rest : (l : ℕ) → Small (rowsOf kind s) l → Small (rowsOf kind (rest kind s)) l
-  small-rest l h = let t : Small (r ∷ rowsOf kind (rest kind s)) l = rw e at h in record { rows = t .rows .1; count = omega (arith, t .count); ticks = t .ticks }
+  small-rest : (l : ℕ) → Small (rowsOf kind s) l → Small (rowsOf kind (rest kind s)) l
+  small-rest l h =
+      let t : Small (r ∷ rowsOf kind (rest kind s)) l = rw e at h in
+      record { rows = t .rows .1; count = omega (arith, t .count); ticks = t .ticks }
+
+  module _ (n : ℕ) (w : n ≡ width kind) where
+    pub total-head : (g : Row → ℕ) (x : ℕ) → x ≡ total g (rowsOf kind (from n s)) → g r + x ≡ total g (rowsOf kind s)
+    unfolding total
+    total-head g x q = rw (e, q, from-width kind s n w)
+
+    pub some-head : (test : Row → Bool) (b : Bool) → b ≡ some test (rowsOf kind (from n s)) → (test r || b) ≡ some test (rowsOf kind s)
+    unfolding some
+    some-head test b q = rw (e, q, from-width kind s n w)
+
+    pub each-head : (P : Row → Type 0) → Each P (rowsOf kind s) → P r × Each P (rowsOf kind (from n s))
+    each-head P h = rw (from-width kind s n w) (rw e at h)
+
+    pub small-part : (l : ℕ) → Small (rowsOf kind s) l → Small (rowsOf kind (from n s)) l
+    small-part l h = rw (from-width kind s n w) (small-rest l h)
 
 -- ---- a loop that goes row by row: what is left after the row at place i
 

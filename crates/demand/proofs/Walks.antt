@@ -7,7 +7,7 @@ use native.Mathlib.Omega.{arith}
 use Prim.Native.Nat.{ℕ, zero, suc, _+_, _-_, _≤_, _<_, min}
 use Rattle.demand.specs.Demands.{called, handled, due, Passes}
 use Rattle.demand.specs.Rows.{Row, Positive, Valid}
-use Rattle.demand.specs.Walk.{deadlineAfter, nextDeadline}
+use Rattle.demand.specs.Inside.Walk.{deadlineAfter, nextDeadline}
 use Rattle.demand.proofs.Between.{Until, Plain, plain-valid, handled-jump, due-before, passes-flat}
 use Rattle.demand.proofs.Demands.{called-mono, handled-next, handled-le-called}
 use Rattle.demand.proofs.Divide.{within-jobs, jobs-above}

@@ -4,6 +4,6 @@ pub mod Rows
 pub mod Demands
 pub mod Refusals
 pub mod Answers
-pub mod Walk
+pub mod Inside
 pub mod Lighter
 pub mod Examples

@@ -11,8 +11,8 @@ use lib.ListN.{length}
 use Rattle.demand.specs.Limits.{figureMost, tasksMost, handlersMost, ticksMost}
 use Rattle.demand.specs.Rows.{Row, tasksOf, handlersOf, width, some, Each, Valid}
 use Rattle.demand.specs.Tests.{refuse}
-use Rattle.demand.specs.declared.readable.Kind.{Kind}
-use Rattle.demand.specs.declared.readable.Kind.the-variants.{Task, Handler}
+use Rattle.demand.specs.declared.table.Kind.{Kind}
+use Rattle.demand.specs.declared.table.Kind.the-variants.{Task, Handler}
 
 -- 1: a list of tasks is not in threes, or one of handlers not in twos
 abbrev pub uneven : Kind → List ℕ → Bool

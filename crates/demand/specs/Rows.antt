@@ -3,6 +3,8 @@
 --   tasksOf t                == the rows of the list of tasks: cost, period, deadline, cost, ..
 --   handlersOf h             == the rows of the list of handlers: cost, period, cost, .., with the period for a deadline
 --   rowsOf kind s            == the rows of either; width kind is how many numbers a row has
+--   rest kind s              == the list s behind its first row
+--   rowOf r                  == the row that the code holds as r
 --   rowAt rs i               == the row at place i, noRow past the last
 --   total g rs               == the sum of g over the rows rs
 --   some test rs             == the test holds of a row of rs
@@ -11,10 +13,11 @@
 --   Valid ts                 every deadline is from 1 to its period
 use mathlib.Core.Bool.{Bool, false, _||_}
 use mathlib.Core.List.{List, [], _∷_}
-use lib.ListN.{getD}
-use Prim.Native.Nat.{ℕ, _+_, _≤_, _<_}
-use Rattle.demand.specs.declared.readable.Kind.{Kind}
-use Rattle.demand.specs.declared.readable.Kind.the-variants.{Task, Handler}
+use Prim.Native.Nat.{ℕ, _+_, _-_, _≤_, _<_}
+use lib.ListN.{length, getD, take, drop}
+use Rattle.demand.specs.declared.table.Kind.{Kind}
+use Rattle.demand.specs.declared.table.Kind.the-variants.{Task, Handler}
+use Rattle.demand.specs.declared.table.Row as code
 
 pub record Row : Type 0 where
   pub cost : ℕ
@@ -40,6 +43,12 @@ rowsOf Handler h = handlersOf h
 abbrev pub width : Kind → ℕ
 width Task = 3
 width Handler = 2
+
+abbrev pub rest : Kind → List ℕ → List ℕ
+rest kind s = take (length s - width kind) (drop (width kind) s)
+
+abbrev pub rowOf : code.Row → Row
+rowOf r = record { cost = r .cost; period = r .period; deadline = r .deadline }
 
 abbrev pub noRow : Row
 noRow = record { cost = 0; period = 0; deadline = 0 }

@@ -3,6 +3,7 @@ pub mod readable;
 pub mod refusal;
 mod rows;
 mod signed;
+pub mod table;
 
 ghost use Rattle.demand.specs.Answers.{DemandSays, MarginSays};
 ghost use Rattle.demand.specs.Demands.{handled, due};

@@ -1,55 +1,12 @@
 // Calls for the crates above on a table that has been found in range, so that a search tests its rows once and not at every length.
-ghost use mathlib.Core.List.{_∷_};
 ghost use mathlib.Core.Path.{_≡_};
-ghost use Prim.Native.Nat.{_<_, _≤_};
-ghost use lib.ListN.{length};
+ghost use Prim.Native.Nat.{_≤_};
 ghost use Rattle.demand.specs.Demands.{handled, due};
 ghost use Rattle.demand.specs.Refusals.{askedRefusal};
-ghost use Rattle.demand.specs.Rows.{rowsOf, width, tasksOf, handlersOf};
-ghost use Rattle.demand.specs.Walk.{rowOf, rest, nextDeadline, Small};
+ghost use Rattle.demand.specs.Rows.{tasksOf, handlersOf};
+ghost use Rattle.demand.specs.Inside.Walk.{nextDeadline, Small};
 use crate::rows;
-
-// Which of the two lists of a table.
-pub enum Kind {
-    Task,
-    Handler,
-}
-
-// A row: its cost, its period and its deadline, which for a handler is the period.
-pub struct Row {
-    pub cost: u64,
-    pub period: u64,
-    pub deadline: u64,
-}
-
-// How many numbers a row has.
-pub fn width(kind: Kind) -> usize
-    ensures { λ r. ⌜ r ≡ width kind ⌝ }
-{
-    match kind {
-        Kind::Task => 3,
-        Kind::Handler => 2,
-    }
-}
-
-fn wide(x: u32) -> u64
-    ensures { λ r. ⌜ (r ≡ x) × (r < 4294967296) ⌝ }
-{
-    x as u64
-}
-
-// The row at the head: the only place in the code that knows where its figures stand. The last of them is the deadline.
-pub fn head(kind: Kind, s: &[u32]) -> Row
-    requires { ⌜ width kind ≤ length (now s) ⌝ }
-    ensures { λ r. ⌜ rowsOf kind (now (s .entry)) ≡ rowOf r ∷ rowsOf kind (rest kind (now (s .entry))) ⌝ }
-{
-    let last = width(kind) - 1;
-    Row {
-        cost: wide(s[0]),
-        period: wide(s[1]),
-        deadline: wide(s[last]),
-    }
-}
+use crate::table::Kind;
 
 // D at l.
 pub fn due(tasks: &[u32], handlers: &[u32], l: u64) -> u64
@@ -84,7 +41,7 @@ fn handled_on(handlers: &[u32], l: u64, f: u64, m: u64) -> u64
     let mut at = l;
     let mut taken = f;
     while at < m {
-        let work = rows::called(handlers, at + 1);
+        let work = rows::called(Kind::Handler, handlers, at + 1);
         if taken < work {
             let busy = rows::lesser(work - taken, m - at);
             taken += busy;

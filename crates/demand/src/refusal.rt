@@ -1,60 +1,50 @@
 // Refusals 1, 2, 3, 13 and 5: the first that applies, in this order, 0 where none does.
 ghost use mathlib.Core.Path.{_≡_};
-ghost use Rattle.demand.specs.Refusals.{uneven, miscounted, outside, rowOutside, deadlineOutside, tableRefusal, askedRefusal};
+ghost use Rattle.demand.specs.Refusals.{uneven, miscounted, rowOutside, deadlineOutside, tableRefusal, askedRefusal};
 ghost use Rattle.demand.specs.Rows.{rowsOf, tasksOf, handlersOf, some};
-use crate::readable;
-use crate::readable::Kind;
-
-pub const FIGURE_MOST: u64 = 1_000_000;
-
-pub const TASKS_MOST: usize = 64;
-
-pub const HANDLERS_MOST: usize = 16;
-
-pub const TICKS_MOST: u64 = 1_000_000_000;
+use crate::table;
+use crate::table::HANDLERS_MOST;
+use crate::table::Kind;
+use crate::table::TASKS_MOST;
+use crate::table::TICKS_MOST;
 
 fn uneven(kind: Kind, s: &[u32]) -> bool
     ensures { λ r. ⌜ r ≡ uneven kind (now (s .entry)) ⌝ }
 {
-    0 < s.len() % readable::width(kind)
+    0 < s.len() % table::width(kind)
 }
 
 fn miscounted(tasks: &[u32], handlers: &[u32]) -> bool
     ensures { λ r. ⌜ r ≡ miscounted (tasksOf (now (tasks .entry))) (handlersOf (now (handlers .entry))) ⌝ }
 {
-    let t = tasks.len() / 3;
-    let h = handlers.len() / 2;
+    let t = table::count(Kind::Task, tasks);
+    let h = table::count(Kind::Handler, handlers);
     (t == 0) | (TASKS_MOST < t) | (HANDLERS_MOST < h)
-}
-
-fn outside(x: u64) -> bool
-    ensures { λ r. ⌜ r ≡ outside x ⌝ }
-{
-    (x == 0) | (FIGURE_MOST < x)
 }
 
 // Has some row of s a cost or period out of its range?
 fn some_outside(kind: Kind, s: &[u32]) -> bool
     ensures { λ r. ⌜ r ≡ some rowOutside (rowsOf kind (now (s .entry))) ⌝ }
 {
-    let own = readable::width(kind);
+    let own = table::width(kind);
     if s.len() < own {
         return false;
     }
-    let row = readable::head(kind, s);
+    let row = table::head(kind, s);
     let rest = some_outside(kind, &s[own..]);
-    outside(row.cost) | outside(row.period) | rest
+    table::outside(row.cost) | table::outside(row.period) | rest
 }
 
 // Has some task a deadline out of its range?
 fn some_deadline_outside(tasks: &[u32]) -> bool
     ensures { λ r. ⌜ r ≡ some deadlineOutside (tasksOf (now (tasks .entry))) ⌝ }
 {
-    if tasks.len() < 3 {
+    let own = table::width(Kind::Task);
+    if tasks.len() < own {
         return false;
     }
-    let task = readable::head(Kind::Task, tasks);
-    let rest = some_deadline_outside(&tasks[3..]);
+    let task = table::head(Kind::Task, tasks);
+    let rest = some_deadline_outside(&tasks[own..]);
     (task.deadline == 0) | (task.period < task.deadline) | rest
 }
 

@@ -3,11 +3,11 @@ ghost use mathlib.Core.Path.{_≡_};
 ghost use Prim.Native.Nat.{_<_, _≤_, min};
 ghost use Rattle.demand.specs.Demands.{called, within, due};
 ghost use Rattle.demand.specs.Limits.{ticksMost};
-ghost use Rattle.demand.specs.Rows.{rowsOf, tasksOf, handlersOf};
-ghost use Rattle.demand.specs.Walk.{Small, nextDeadline};
-use crate::readable::Kind;
-use crate::readable::head;
-use crate::readable::width;
+ghost use Rattle.demand.specs.Rows.{rowsOf, tasksOf};
+ghost use Rattle.demand.specs.Inside.Walk.{Small, nextDeadline};
+use crate::table::Kind;
+use crate::table::head;
+use crate::table::width;
 
 pub fn lesser(a: u64, b: u64) -> u64
     ensures { λ r. ⌜ r ≡ min a b ⌝ }
@@ -32,25 +32,27 @@ pub fn due(tasks: &[u32], l: u64) -> u64
     requires { ⌜ Small (tasksOf (now tasks)) l ⌝ }
     ensures { λ r. ⌜ r ≡ due (tasksOf (now (tasks .entry))) l ⌝ }
 {
-    if tasks.len() < 3 {
+    let own = width(Kind::Task);
+    if tasks.len() < own {
         return 0;
     }
     let task = head(Kind::Task, tasks);
-    let own = task.cost * jobs(l, task.deadline, task.period);
-    own + due(&tasks[3..], l)
+    let rest = due(&tasks[own..], l);
+    task.cost * jobs(l, task.deadline, task.period) + rest
 }
 
-// A: the work that handlers are called for within l ticks.
-pub fn called(handlers: &[u32], l: u64) -> u64
-    requires { ⌜ Small (handlersOf (now handlers)) l ⌝ }
-    ensures { λ r. ⌜ r ≡ called (handlersOf (now (handlers .entry))) l ⌝ }
+// A of either kind: the work that the rows of s are called for within l ticks.
+pub fn called(kind: Kind, s: &[u32], l: u64) -> u64
+    requires { ⌜ Small (rowsOf kind (now s)) l ⌝ }
+    ensures { λ r. ⌜ r ≡ called (rowsOf kind (now (s .entry))) l ⌝ }
 {
-    if handlers.len() < 2 {
+    let own = width(kind);
+    if s.len() < own {
         return 0;
     }
-    let handler = head(Kind::Handler, handlers);
-    let own = handler.cost * ((l + (handler.period - 1)) / handler.period);
-    own + called(&handlers[2..], l)
+    let row = head(kind, s);
+    let rest = called(kind, &s[own..], l);
+    row.cost * ((l + (row.period - 1)) / row.period) + rest
 }
 
 // The first deadline of a row above at, or top where that comes first.

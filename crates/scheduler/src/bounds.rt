@@ -14,7 +14,7 @@ use crate::deadlines;
 use crate::places;
 use crate::rows;
 use crate::tick;
-use demand::refusal::FIGURE_MOST;
+use demand::table::FIGURE_MOST;
 
 fn miscounts(n: usize, m: usize) -> bool
     ensures { λ r. ⌜ r ≡ miscounts n m ⌝ }

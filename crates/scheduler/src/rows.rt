@@ -2,20 +2,19 @@
 ghost use mathlib.Core.Path.{_≡_};
 ghost use Prim.Native.Nat.{_+_, _*_, _<_, _≤_};
 ghost use lib.ListN.{length};
-ghost use Rattle.demand.specs.Rows.{rowsOf, width, rowAt};
-ghost use Rattle.demand.specs.Walk.{rowOf};
+ghost use Rattle.demand.specs.Rows.{rowsOf, width, rowAt, rowOf};
 ghost use Rattle.scheduler.specs.Runs.{rowOn, Fitting};
-use demand::readable;
-use demand::readable::Kind;
-use demand::readable::Row;
+use demand::table;
+use demand::table::Kind;
+use demand::table::Row;
 
 // The row at place i of a flat list.
 fn row_of(kind: Kind, s: &[u32], i: usize) -> Row
     requires { ⌜ (i < 64) × (width kind * i + width kind ≤ length (now s)) ⌝ }
     ensures { λ r. ⌜ rowOf r ≡ rowAt (rowsOf kind (now (s .entry))) i ⌝ }
 {
-    let at = readable::width(kind) * i;
-    readable::head(kind, &s[at..])
+    let at = table::width(kind) * i;
+    table::head(kind, &s[at..])
 }
 
 // The row at place k, of n tasks and m handlers behind them.

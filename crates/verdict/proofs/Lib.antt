@@ -8,6 +8,6 @@ pub mod UnderLess
 pub mod Full
 pub mod Cases
 pub mod DyeHouse
-pub mod Heads
+pub mod Capped
 pub mod Searching
 pub mod Sayings

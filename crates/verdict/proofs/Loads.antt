@@ -22,17 +22,9 @@ pub work-cons : (m : ℕ) (r : Row) (rs : List Row) → work m (r ∷ rs) ≡ r 
 unfolding work
 work-cons m r rs = total-cons (workBy m) r rs
 
-pub costs-nil : costs [] ≡ 0
-unfolding costs
-costs-nil = total-nil (λ r. r .cost)
-
 pub costs-cons : (r : Row) (rs : List Row) → costs (r ∷ rs) ≡ r .cost + costs rs
 unfolding costs
 costs-cons r rs = total-cons (λ r. r .cost) r rs
-
-pub slack-nil : (m : ℕ) → slack m [] ≡ 0
-unfolding slack
-slack-nil m = total-nil (slackBy m)
 
 pub slack-cons : (m : ℕ) (r : Row) (rs : List Row) → slack m (r ∷ rs) ≡ r .cost * (m / r .period) * (r .period - r .deadline) + slack m rs
 unfolding slack

@@ -9,7 +9,7 @@ use Rattle.demand.specs.Limits.{ticksMost}
 use Rattle.demand.specs.Refusals.{tableRefusal, InRange}
 use Rattle.demand.specs.Rows.{tasksOf, handlersOf}
 use Rattle.demand.specs.Tests.{refuse}
-use Rattle.demand.specs.Walk.{Small}
+use Rattle.demand.specs.Inside.Walk.{Small}
 use Rattle.demand.proofs.Sizes.{fair-positive}
 use Rattle.demand.proofs.Refused.{table-in-range, table-refusal-zero, table-then-zero, table-then-refused, not-refused}
 use Rattle.verdict.specs.Multiples.{period}

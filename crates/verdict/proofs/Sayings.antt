@@ -18,7 +18,7 @@ use Rattle.verdict.specs.declared.search.Found.{Found}
 use Rattle.verdict.specs.declared.search.Found.the-variants as found
 use Rattle.verdict.proofs.Divisors.{period-positive}
 use Rattle.verdict.proofs.Facts.Ends.{end-le, end-enough}
-use Rattle.verdict.proofs.Heads.{capped-zero, capped-some}
+use Rattle.verdict.proofs.Capped.{capped-zero, capped-some}
 use Rattle.verdict.proofs.Loads.{work-most, costs-most, slack-most}
 use Rattle.verdict.proofs.Readable.{readable-in-range, readable-period, readable-zero, period-small, refused-4, refused-table}
 

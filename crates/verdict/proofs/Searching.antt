@@ -6,7 +6,7 @@ use native.Mathlib.Omega.{arith}
 use Prim.Native.Nat.{ℕ, zero, suc, _+_, _≤_, _<_}
 use Rattle.demand.specs.Demands.{handled, due, Passes}
 use Rattle.demand.specs.Rows.{Row, Valid}
-use Rattle.demand.specs.Walk.{nextDeadline}
+use Rattle.demand.specs.Inside.Walk.{nextDeadline}
 use Rattle.demand.proofs.Demands.{passes-zero}
 use Rattle.demand.proofs.Divide.{le-or-lt}
 use Rattle.demand.proofs.Walks.{next-above, passes-walk}

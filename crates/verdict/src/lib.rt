@@ -7,7 +7,7 @@ ghost use mathlib.Core.Path.{_≡_};
 ghost use Rattle.verdict.specs.Multiples.{period};
 ghost use Rattle.verdict.specs.Promise.{verdictRefusal, VerdictSays};
 ghost use Rattle.demand.specs.Rows.{tasksOf, handlersOf};
-use demand::readable::Kind;
+use demand::table::Kind;
 use search::Found;
 
 // Fits, misses at the shortest interval that fails with both demands there, or the number of the refusal.

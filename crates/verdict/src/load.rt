@@ -3,21 +3,21 @@ ghost use mathlib.Core.Path.{_≡_};
 ghost use Prim.Native.Nat.{_*_, _<_, _≤_};
 ghost use Rattle.demand.specs.Limits.{ticksMost};
 ghost use Rattle.demand.specs.Rows.{rowsOf, tasksOf, handlersOf, Valid};
-ghost use Rattle.demand.specs.Walk.{Small};
+ghost use Rattle.demand.specs.Inside.Walk.{Small};
 ghost use Rattle.verdict.specs.Loads.{work, costs, slack, millionths};
-use demand::readable;
-use demand::readable::Kind;
+use demand::table;
+use demand::table::Kind;
 
 // The work that the rows of s bring in h ticks, for whole periods.
 pub fn work(kind: Kind, s: &[u32], h: u64) -> u64
     requires { ⌜ Small (rowsOf kind (now s)) h ⌝ }
     ensures { λ r. ⌜ r ≡ work h (rowsOf kind (now (s .entry))) ⌝ }
 {
-    let own = readable::width(kind);
+    let own = table::width(kind);
     if s.len() < own {
         return 0;
     }
-    let row = readable::head(kind, s);
+    let row = table::head(kind, s);
     let rest = work(kind, &s[own..], h);
     row.cost * (h / row.period) + rest
 }
@@ -27,11 +27,12 @@ pub fn costs(handlers: &[u32]) -> u64
     requires { ⌜ Small (handlersOf (now handlers)) 0 ⌝ }
     ensures { λ r. ⌜ r ≡ costs (handlersOf (now (handlers .entry))) ⌝ }
 {
-    if handlers.len() < 2 {
+    let own = table::width(Kind::Handler);
+    if handlers.len() < own {
         return 0;
     }
-    let handler = readable::head(Kind::Handler, handlers);
-    let rest = costs(&handlers[2..]);
+    let handler = table::head(Kind::Handler, handlers);
+    let rest = costs(&handlers[own..]);
     handler.cost + rest
 }
 
@@ -40,11 +41,12 @@ pub fn slack(tasks: &[u32], h: u64) -> u64
     requires { ⌜ Small (tasksOf (now tasks)) h × Valid (tasksOf (now tasks)) ⌝ }
     ensures { λ r. ⌜ r ≡ slack h (tasksOf (now (tasks .entry))) ⌝ }
 {
-    if tasks.len() < 3 {
+    let own = table::width(Kind::Task);
+    if tasks.len() < own {
         return 0;
     }
-    let task = readable::head(Kind::Task, tasks);
-    let rest = slack(&tasks[3..], h);
+    let task = table::head(Kind::Task, tasks);
+    let rest = slack(&tasks[own..], h);
     task.cost * (h / task.period) * (task.period - task.deadline) + rest
 }
 

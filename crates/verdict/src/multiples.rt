@@ -5,9 +5,9 @@ ghost use Rattle.demand.specs.Limits.{ticksMost};
 ghost use Rattle.demand.specs.Refusals.{tableRefusal, FairRow};
 ghost use Rattle.demand.specs.Rows.{rowsOf, tasksOf, handlersOf, Each};
 ghost use Rattle.verdict.specs.Multiples.{gcd, lcmFrom, period, capped};
-use demand::readable;
-use demand::readable::Kind;
-use demand::refusal::TICKS_MOST;
+use demand::table;
+use demand::table::Kind;
+use demand::table::TICKS_MOST;
 
 // The greatest common divisor: Euclid's rule, whose second number falls.
 fn gcd(a: u64, b: u64) -> u64
@@ -21,11 +21,11 @@ fn lcm_from(kind: Kind, s: &[u32], a: u64) -> u64
     requires { ⌜ Each FairRow (rowsOf kind (now s)) × (0 < a) × (a ≤ ticksMost) ⌝ }
     ensures { λ r. ⌜ r ≡ capped (lcmFrom a (rowsOf kind (now (s .entry)))) ⌝ }
 {
-    let own = readable::width(kind);
+    let own = table::width(kind);
     if s.len() < own {
         return a;
     }
-    let row = readable::head(kind, s);
+    let row = table::head(kind, s);
     let m = a / gcd(a, row.period) * row.period;
     if TICKS_MOST < m {
         return 0;

@@ -11,8 +11,8 @@ use lib.Seq.{length-take-le, getD-take}
 use Rattle.demand.proofs.Places.{rows-take, each-at}
 use Rattle.demand.proofs.Slices.{rows-count, handlers-plain}
 use Rattle.demand.specs.Rows.{Row, tasksOf, handlersOf, rowsOf, width, rowAt, noRow}
-use Rattle.demand.specs.declared.readable.Kind.{Kind}
-use Rattle.demand.specs.declared.readable.Kind.the-variants.{Task, Handler}
+use Rattle.demand.specs.declared.table.Kind.{Kind}
+use Rattle.demand.specs.declared.table.Kind.the-variants.{Task, Handler}
 use Rattle.scheduler.specs.Places.{Fits}
 use Rattle.scheduler.specs.Reached.{Sound}
 use Rattle.scheduler.specs.Runs.{rowIn, taskRows, handlerRows, Fitting}

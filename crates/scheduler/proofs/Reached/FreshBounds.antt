@@ -15,8 +15,8 @@ use Rattle.demand.proofs.Refused.{row-inside, deadline-inside}
 use Rattle.demand.specs.Limits.{tasksMost, handlersMost}
 use Rattle.demand.specs.Refusals.{tableRefusal, FairRow}
 use Rattle.demand.specs.Rows.{Row, rowsOf, width, tasksOf, handlersOf, rowAt, noRow, Sound}
-use Rattle.demand.specs.declared.readable.Kind.{Kind}
-use Rattle.demand.specs.declared.readable.Kind.the-variants.{Task, Handler}
+use Rattle.demand.specs.declared.table.Kind.{Kind}
+use Rattle.demand.specs.declared.table.Kind.the-variants.{Task, Handler}
 use Rattle.scheduler.specs.Bounds.{miscounts, outsideAt, deadlineOutsideAt, placesUsed, InBounds}
 use Rattle.scheduler.specs.Runs.{rowIn, rowCount, Shaped}
 use Rattle.scheduler.specs.Scans.{used}

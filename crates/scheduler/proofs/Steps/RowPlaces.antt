@@ -14,7 +14,7 @@ use Rattle.demand.proofs.Refused.{fair-row, sound-row}
 use Rattle.demand.proofs.Slices.{width-most, from-is}
 use Rattle.demand.specs.Refusals.{FairRow}
 use Rattle.demand.specs.Rows.{Row, rowsOf, width, rowAt, noRow, Sound}
-use Rattle.demand.specs.declared.readable.Kind.{Kind}
+use Rattle.demand.specs.declared.table.Kind.{Kind}
 use Rattle.scheduler.specs.Bounds.{outsideAt, deadlineOutsideAt}
 use Rattle.scheduler.specs.Scans.{any}
 use Rattle.scheduler.proofs.Steps.Scan.{any-at}

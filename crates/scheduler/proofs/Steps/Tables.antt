@@ -10,7 +10,7 @@ use Rattle.demand.proofs.Refused.{refusal-in-range, refusal-whole}
 use Rattle.demand.proofs.Slices.{rows-count}
 use Rattle.demand.specs.Refusals.{tableRefusal, InRange}
 use Rattle.demand.specs.Rows.{tasksOf, handlersOf}
-use Rattle.demand.specs.declared.readable.Kind.the-variants.{Task, Handler}
+use Rattle.demand.specs.declared.table.Kind.the-variants.{Task, Handler}
 use Rattle.scheduler.specs.Runs.{runOf}
 use Rattle.scheduler.specs.Start.{padded, zeros, freshRun, noRun, freshOf}
 use Rattle.scheduler.specs.declared.Late.the-variants.{Nobody}

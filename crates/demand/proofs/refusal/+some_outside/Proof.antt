@@ -1,19 +1,17 @@
-use mathlib.Core.List.{List}
-use mathlib.Core.Path.{ap, sym, _∙_}
+use mathlib.Core.Path.{sym}
 use lib.ListN.{length}
 use native.Mathlib.Omega.{arith}
 use Rattle.demand.specs.Refusals.{rowOutside}
-use Rattle.demand.specs.Rows.{rowsOf, some}
-use Rattle.demand.proofs.Slices.{width-least, rest-length, some-short, some-head, from-width}
+use Rattle.demand.proofs.Slices.{part-shorter, some-short, some-head}
 use Prim.Native.Nat.{ℕ, _<_}
 use borrow.Fn.Kinds.{In}
 use borrow.Fn.PlainCycle.{Measures, is, falls, and}
 use Rattle.demand.proofs.refusal.some_outside.Reads as some-outside
 use Rattle.demand.proofs.refusal.some_outside.Kinds as some-outside-kinds
 use Rattle.demand.proofs.refusal.+some_outside.Lts-some_outside as some-outside-lts
-use Rattle.demand.proofs.readable.head.Reads as head-reads
-use Rattle.demand.proofs.readable.width.Reads as width-reads
-use Rattle.demand.proofs.refusal.outside.Reads as outside-reads
+use Rattle.demand.proofs.table.head.Reads as head-reads
+use Rattle.demand.proofs.table.outside.Reads as outside-reads
+use Rattle.demand.proofs.table.width.Reads as width-reads
 use Rattle.demand.proofs.refusal.+some_outside.{statement}
 use Rattle.demand.proofs.refusal.+some_outside.Tie.{close}
 
@@ -56,8 +54,7 @@ some-outside-part-some-outside-end t c = omega arith
 some-outside-some-outside-requires : (t : ℕ) → some-outside-lts.Need-some-outside-requires (width-reads.Asked, width-reads.Learnt, head-reads.Asked, head-reads.Learnt, some-outside-below t, some-outside.Post, outside-reads.Asked, outside-reads.Learnt) (some-outside-at t) some-outside.Post
 some-outside-some-outside-requires t c κs =
     let start = c .before .before .before .before .before in
-    let n = rest-length (start .args .kind) (start .args .s .now) in
-    (omega (arith, n, c .before .before .before .width .ensures, width-least (start .args .kind)), tt)
+    (omega (arith, part-shorter (start .args .kind) (start .args .s .now) _ (c .before .before .before .width .ensures) (omega arith)), tt)
 
 some-outside-outside-requires : (t : ℕ) → some-outside-lts.Need-outside-requires (width-reads.Asked, width-reads.Learnt, head-reads.Asked, head-reads.Learnt, some-outside-below t, some-outside.Post, outside-reads.Asked, outside-reads.Learnt) (some-outside-at t) some-outside.Post
 some-outside-outside-requires t c κs = tt
@@ -68,10 +65,10 @@ some-outside-outside-requires-2 t c κs = tt
 some-outside-returns-2 : (t : ℕ) → some-outside-lts.Need-returns-2 (width-reads.Asked, width-reads.Learnt, head-reads.Asked, head-reads.Learnt, some-outside-below t, some-outside.Post, outside-reads.Asked, outside-reads.Learnt) (some-outside-at t) some-outside.Post
 some-outside-returns-2 t c =
     let y = c .before .before in
-    let start = y .before .before .before .before .before .before in
-    let kind = start .args .kind in
-    let s = start .args .s .now in
-    rw (c .before .outside .ensures, c .outside2 .ensures) (some-head kind s _ (y .before .before .head .ensures) rowOutside _ (y .some-outside .ensures ∙ ap (λ (z : List ℕ). some rowOutside (rowsOf kind z)) (from-width kind s _ (y .before .before .before .before .width .ensures))))
+    let width = y .before .before .before .before in
+    let start = width .before .before in
+    rw (c .before .outside .ensures, c .outside2 .ensures)
+    (some-head (start .args .kind) (start .args .s .now) _ (y .before .before .head .ensures) _ (width .width .ensures) rowOutside _ (y .some-outside .ensures))
 
 pub +some-outside-spec : {M : Type 1} → statement M
 +some-outside-spec = close μ-some-outside λ t. some-outside-lts.spec (width-reads.Asked, width-reads.Learnt, head-reads.Asked, head-reads.Learnt, some-outside-below t, some-outside.Post, outside-reads.Asked, outside-reads.Learnt)

@@ -1,10 +1,15 @@
-use Rattle.demand.specs.declared.readable.Kind.the-variants.{Task, Handler}
-use Rattle.demand.proofs.Slices.{rows-count}
+use borrow.Author.Needs.{needs}
 use Rattle.demand.proofs.refusal.miscounted.Statement.{statement}
 use Rattle.demand.proofs.refusal.miscounted.Tie as tie
 
+count-requires : tie.Need-count-requires
+count-requires c κs = search needs
+
+count-requires-2 : tie.Need-count-requires-2
+count-requires-2 c κs = search needs
+
 returns : tie.Need-returns
-returns c = rw (rows-count Task (c .args .tasks .now), rows-count Handler (c .args .handlers .now))
+returns c = rw (c .before .count .ensures, c .count2 .ensures)
 
 pub miscounted-spec : {M : Type 1} → statement M
-miscounted-spec = tie.close (tie.spec returns)
+miscounted-spec = tie.close (tie.spec count-requires count-requires-2 returns)

@@ -1,20 +1,18 @@
-use mathlib.Core.List.{List}
-use mathlib.Core.Path.{sym, subst}
+use mathlib.Core.Path.{sym}
 use lib.ListN.{length}
 use native.Mathlib.Omega.{arith}
 use Rattle.demand.specs.Rows.{rowsOf}
-use Rattle.demand.specs.Walk.{Small}
-use Rattle.demand.proofs.Slices.{width-least, rest-length, from-width, fair-head, small-rest}
-use Rattle.verdict.proofs.Heads.{work-short, work-step}
+use Rattle.demand.proofs.Slices.{part-shorter, total-short, total-head, fair-head, small-part}
+use Rattle.verdict.specs.Loads.{workBy, work}
 use Rattle.verdict.proofs.Loads.{work-by-most, work-most}
 use Prim.Native.Nat.{ℕ, _<_}
 use borrow.Fn.Kinds.{In}
 use borrow.Fn.PlainCycle.{Measures, is, falls, and}
-use Rattle.verdict.proofs.load.work.Reads as work
+use Rattle.verdict.proofs.load.work.Reads as work-own
 use Rattle.verdict.proofs.load.work.Kinds as work-kinds
 use Rattle.verdict.proofs.load.+work.Lts-work as work-lts
-use Rattle.demand.proofs.readable.head.Reads as head-reads
-use Rattle.demand.proofs.readable.width.Reads as width-reads
+use Rattle.demand.proofs.table.head.Reads as head-reads
+use Rattle.demand.proofs.table.width.Reads as width-reads
 use Rattle.verdict.proofs.load.+work.{statement}
 use Rattle.verdict.proofs.load.+work.Tie.{close}
 
@@ -22,65 +20,75 @@ abbrev μ-work : Measures 1 work-kinds.ps ℕ
 μ-work κs a = length (a .1 .0 .now)
 
 abbrev work-at : ℕ → In 1 work-kinds.ps
-work-at t = and 1 work-kinds.ps (is 1 work-kinds.ps μ-work t) work.Pre
+work-at t = and 1 work-kinds.ps (is 1 work-kinds.ps μ-work t) work-own.Pre
 
 abbrev work-below : ℕ → In 1 work-kinds.ps
-work-below t = and 1 work-kinds.ps (falls 1 work-kinds.ps _<_ μ-work t) work.Pre
+work-below t = and 1 work-kinds.ps (falls 1 work-kinds.ps _<_ μ-work t) work-own.Pre
 
-work-width-requires : (t : ℕ) → work-lts.Need-width-requires (width-reads.Asked, width-reads.Learnt, head-reads.Asked, head-reads.Learnt, work-below t, work.Post) (work-at t) work.Post
+work-width-requires : (t : ℕ) → work-lts.Need-width-requires (width-reads.Asked, width-reads.Learnt, head-reads.Asked, head-reads.Learnt, work-below t, work-own.Post) (work-at t) work-own.Post
 work-width-requires t c κs = tt
 
-work-returns : (t : ℕ) → work-lts.Need-returns (width-reads.Asked, width-reads.Learnt, head-reads.Asked, head-reads.Learnt, work-below t, work.Post) (work-at t) work.Post
-work-returns t c = sym (work-short (c .before .before .before .args .kind) (c .before .before .before .args .s .now) (omega (arith, c .if1 .taken, c .before .width .ensures)) _)
+work-returns : (t : ℕ) → work-lts.Need-returns (width-reads.Asked, width-reads.Learnt, head-reads.Asked, head-reads.Learnt, work-below t, work-own.Post) (work-at t) work-own.Post
+unfolding work
+work-returns t c =
+    let start = c .before .before .before in
+    sym (total-short (start .args .kind) (start .args .s .now) (omega (arith, c .if1 .taken, c .before .width .ensures)) (workBy (start .args .h)))
 
-work-head-requires : (t : ℕ) → work-lts.Need-head-requires (width-reads.Asked, width-reads.Learnt, head-reads.Asked, head-reads.Learnt, work-below t, work.Post) (work-at t) work.Post
+work-head-requires : (t : ℕ) → work-lts.Need-head-requires (width-reads.Asked, width-reads.Learnt, head-reads.Asked, head-reads.Learnt, work-below t, work-own.Post) (work-at t) work-own.Post
 work-head-requires t c κs = omega (arith, c .before .width .ensures)
 
-work-mul-work : (t : ℕ) → work-lts.Need-mul-work (width-reads.Asked, width-reads.Learnt, head-reads.Asked, head-reads.Learnt, work-below t, work.Post) (work-at t) work.Post
+work-mul-work : (t : ℕ) → work-lts.Need-mul-work (width-reads.Asked, width-reads.Learnt, head-reads.Asked, head-reads.Learnt, work-below t, work-own.Post) (work-at t) work-own.Post
 work-mul-work t c = omega arith
 
-work-sub-work : (t : ℕ) → work-lts.Need-sub-work (width-reads.Asked, width-reads.Learnt, head-reads.Asked, head-reads.Learnt, work-below t, work.Post) (work-at t) work.Post
+work-sub-work : (t : ℕ) → work-lts.Need-sub-work (width-reads.Asked, width-reads.Learnt, head-reads.Asked, head-reads.Learnt, work-below t, work-own.Post) (work-at t) work-own.Post
 work-sub-work t c = omega arith
 
-work-part-work-start : (t : ℕ) → work-lts.Need-part-work-start (width-reads.Asked, width-reads.Learnt, head-reads.Asked, head-reads.Learnt, work-below t, work.Post) (work-at t) work.Post
+work-part-work-start : (t : ℕ) → work-lts.Need-part-work-start (width-reads.Asked, width-reads.Learnt, head-reads.Asked, head-reads.Learnt, work-below t, work-own.Post) (work-at t) work-own.Post
 work-part-work-start t c = omega arith
 
-work-part-work-end : (t : ℕ) → work-lts.Need-part-work-end (width-reads.Asked, width-reads.Learnt, head-reads.Asked, head-reads.Learnt, work-below t, work.Post) (work-at t) work.Post
+work-part-work-end : (t : ℕ) → work-lts.Need-part-work-end (width-reads.Asked, width-reads.Learnt, head-reads.Asked, head-reads.Learnt, work-below t, work-own.Post) (work-at t) work-own.Post
 work-part-work-end t c = omega arith
 
-work-work-requires : (t : ℕ) → work-lts.Need-work-requires (width-reads.Asked, width-reads.Learnt, head-reads.Asked, head-reads.Learnt, work-below t, work.Post) (work-at t) work.Post
+work-work-requires : (t : ℕ) → work-lts.Need-work-requires (width-reads.Asked, width-reads.Learnt, head-reads.Asked, head-reads.Learnt, work-below t, work-own.Post) (work-at t) work-own.Post
 work-work-requires t c κs =
-    let x = c .before .before .before .before .before in
-    let kind = x .args .kind in
-    let s = x .args .s .now in
-    let same = from-width kind s _ (c .before .before .before .width .ensures) in
-    let rest = small-rest kind s _ (c .before .head .ensures) (x .args .h) (x .pre .1) in
-    (omega (arith, rest-length kind s, c .before .before .before .width .ensures, width-least kind), subst (λ (z : List ℕ). Small (rowsOf kind z) (x .args .h)) (sym same) rest)
+    let width = c .before .before .before in
+    let start = width .before .before in
+    let kind = start .args .kind in
+    let s = start .args .s .now in
+    (omega (arith, part-shorter kind s _ (width .width .ensures) (omega arith)), small-part kind s _ (c .before .head .ensures) _ (width .width .ensures) _ (start .pre .1))
 
-work-div-result : (t : ℕ) → work-lts.Need-div-result (width-reads.Asked, width-reads.Learnt, head-reads.Asked, head-reads.Learnt, work-below t, work.Post) (work-at t) work.Post
+work-div-result : (t : ℕ) → work-lts.Need-div-result (width-reads.Asked, width-reads.Learnt, head-reads.Asked, head-reads.Learnt, work-below t, work-own.Post) (work-at t) work-own.Post
 work-div-result t c =
     let x = c .before .before .before .before .before .before .before in
     fair-head (x .args .kind) (x .args .s .now) _ (c .before .before .before .head .ensures) _ (x .pre .1) .period .least
 
-work-mul-result : (t : ℕ) → work-lts.Need-mul-result (width-reads.Asked, width-reads.Learnt, head-reads.Asked, head-reads.Learnt, work-below t, work.Post) (work-at t) work.Post
+work-mul-result : (t : ℕ) → work-lts.Need-mul-result (width-reads.Asked, width-reads.Learnt, head-reads.Asked, head-reads.Learnt, work-below t, work-own.Post) (work-at t) work-own.Post
 work-mul-result t c =
     let x = c .before .before .before .before .before .before .before .before in
     let fair = fair-head (x .args .kind) (x .args .s .now) _ (c .before .before .before .before .head .ensures) _ (x .pre .1) in
     omega (arith, work-by-most (x .args .h) _ fair, x .pre .1 .ticks)
 
-work-add-result : (t : ℕ) → work-lts.Need-add-result (width-reads.Asked, width-reads.Learnt, head-reads.Asked, head-reads.Learnt, work-below t, work.Post) (work-at t) work.Post
+work-add-result : (t : ℕ) → work-lts.Need-add-result (width-reads.Asked, width-reads.Learnt, head-reads.Asked, head-reads.Learnt, work-below t, work-own.Post) (work-at t) work-own.Post
+unfolding work
 work-add-result t c =
-    let x = c .before .before .before .before .before .before .before .before in
-    let sum = work-step (x .args .kind) (x .args .s .now) _ (c .before .before .before .before .head .ensures) _ (c .before .before .before .before .before .before .width .ensures) (x .args .h) _ (c .before .before .work .ensures) in
-    omega (arith, sum, work-most (x .args .h) 64 (rowsOf (x .args .kind) (x .args .s .now)) (x .pre .1 .rows) (x .pre .1 .count), x .pre .1 .ticks)
+    let rest = c .before .before in
+    let width = rest .before .before .before .before in
+    let start = width .before .before in
+    let sum = total-head (start .args .kind) (start .args .s .now) _ (rest .before .before .head .ensures) _ (width .width .ensures) (workBy (start .args .h)) _ (rest .work .ensures) in
+    omega (arith, sum, work-most (start .args .h) 64 (rowsOf (start .args .kind) (start .args .s .now)) (start .pre .1 .rows) (start .pre .1 .count), start .pre .1 .ticks)
 
-work-returns-2 : (t : ℕ) → work-lts.Need-returns-2 (width-reads.Asked, width-reads.Learnt, head-reads.Asked, head-reads.Learnt, work-below t, work.Post) (work-at t) work.Post
-work-returns-2 t c = let x = c .before .before .before .before .before .before .before .before in work-step (x .args .kind) (x .args .s .now) _ (c .before .before .before .before .head .ensures) _ (c .before .before .before .before .before .before .width .ensures) (x .args .h) _ (c .before .before .work .ensures)
+work-returns-2 : (t : ℕ) → work-lts.Need-returns-2 (width-reads.Asked, width-reads.Learnt, head-reads.Asked, head-reads.Learnt, work-below t, work-own.Post) (work-at t) work-own.Post
+unfolding work
+work-returns-2 t c =
+    let rest = c .before .before in
+    let width = rest .before .before .before .before in
+    let start = width .before .before in
+    total-head (start .args .kind) (start .args .s .now) _ (rest .before .before .head .ensures) _ (width .width .ensures) (workBy (start .args .h)) _ (rest .work .ensures)
 
 pub +work-spec : {M : Type 1} → statement M
-+work-spec = close μ-work λ t. work-lts.spec (width-reads.Asked, width-reads.Learnt, head-reads.Asked, head-reads.Learnt, work-below t, work.Post)
++work-spec = close μ-work λ t. work-lts.spec (width-reads.Asked, width-reads.Learnt, head-reads.Asked, head-reads.Learnt, work-below t, work-own.Post)
     (work-at t)
-    work.Post
+    work-own.Post
     (work-width-requires t)
     (work-returns t)
     (work-head-requires t)

@@ -1,20 +1,18 @@
-use mathlib.Core.List.{List}
-use mathlib.Core.Path.{sym, subst}
+use mathlib.Core.Path.{refl}
 use lib.ListN.{length}
 use native.Mathlib.Omega.{arith}
 use Rattle.demand.specs.Refusals.{FairRow}
-use Rattle.demand.specs.Rows.{rowsOf, Each}
-use Rattle.demand.proofs.Slices.{width-least, rest-length, from-width}
+use Rattle.demand.proofs.Slices.{part-shorter, each-head}
 use Rattle.verdict.proofs.Divisors.{gcd-positive, lcm-positive}
-use Rattle.verdict.proofs.Heads.{lcm-short, lcm-over, lcm-step, lcm-read, lcm-fits, fair-rest}
+use Rattle.verdict.proofs.Capped.{lcm-short, lcm-over, lcm-head, lcm-read, lcm-fits}
 use Prim.Native.Nat.{ℕ, _<_}
 use borrow.Fn.Kinds.{In}
 use borrow.Fn.PlainCycle.{Measures, is, falls, and}
 use Rattle.verdict.proofs.multiples.lcm_from.Reads as lcm-from
 use Rattle.verdict.proofs.multiples.lcm_from.Kinds as lcm-from-kinds
 use Rattle.verdict.proofs.multiples.+lcm_from.Lts-lcm_from as lcm-from-lts
-use Rattle.demand.proofs.readable.head.Reads as head-reads
-use Rattle.demand.proofs.readable.width.Reads as width-reads
+use Rattle.demand.proofs.table.head.Reads as head-reads
+use Rattle.demand.proofs.table.width.Reads as width-reads
 use Rattle.verdict.proofs.multiples.gcd.Reads as gcd-reads
 use Rattle.verdict.proofs.multiples.+lcm_from.{statement}
 use Rattle.verdict.proofs.multiples.+lcm_from.Tie.{close}
@@ -47,7 +45,7 @@ lcm-from-div-m t c = omega (arith, c .gcd .ensures, gcd-positive _ (c .before .h
 lcm-from-mul-m : (t : ℕ) → lcm-from-lts.Need-mul-m (width-reads.Asked, width-reads.Learnt, head-reads.Asked, head-reads.Learnt, gcd-reads.Asked, gcd-reads.Learnt, lcm-from-below t, lcm-from.Post) (lcm-from-at t) lcm-from.Post
 lcm-from-mul-m t c =
     let x = c .before .before .before .before .before .before in
-    let fair = fair-rest (x .args .kind) (x .args .s .now) _ (c .before .before .head .ensures) (x .pre .1 .0) .0 in
+    let fair = each-head (x .args .kind) (x .args .s .now) _ (c .before .before .head .ensures) _ refl FairRow (x .pre .1 .0) .0 in
     omega (arith, lcm-fits (x .args .a) (c .before .gcd .result) _ (x .pre .1 .2) (fair .period .most))
 
 lcm-from-returns-2 : (t : ℕ) → lcm-from-lts.Need-returns-2 (width-reads.Asked, width-reads.Learnt, head-reads.Asked, head-reads.Learnt, gcd-reads.Asked, gcd-reads.Learnt, lcm-from-below t, lcm-from.Post) (lcm-from-at t) lcm-from.Post
@@ -73,11 +71,11 @@ lcm-from-lcm-from-requires t c κs =
     let kind = x .args .kind in
     let s = x .args .s .now in
     let wide = c .before .before .before .before .before .before .width .ensures in
-    let fair = fair-rest kind s _ (c .before .before .before .before .head .ensures) (x .pre .1 .0) in
+    let fair = each-head kind s _ (c .before .before .before .before .head .ensures) _ wide FairRow (x .pre .1 .0) in
     let multiple = lcm-read _ _ _ (c .before .before .before .gcd .ensures) in (
-      omega (arith, rest-length kind s, wide, width-least kind),
+      omega (arith, part-shorter kind s _ wide (omega arith)),
       (
-        subst (λ (z : List ℕ). Each FairRow (rowsOf kind z)) (sym (from-width kind s _ wide)) (fair .1),
+        fair .1,
         omega (arith, multiple, lcm-positive _ _ (x .pre .1 .1) (fair .0 .period .least)),
         omega arith,
       ),
@@ -87,7 +85,7 @@ lcm-from-returns-3 : (t : ℕ) → lcm-from-lts.Need-returns-3 (width-reads.Aske
 lcm-from-returns-3 t c =
     let x = c .before .before .before .before .before .before .before .before .before in
     let multiple = lcm-read _ _ _ (c .before .before .before .before .gcd .ensures) in
-    lcm-step (x .args .kind) (x .args .s .now) _ (c .before .before .before .before .before .head .ensures) _ (c .before .before .before .before .before .before .before .width .ensures) _ _ _ multiple (c .lcm-from .ensures)
+    lcm-head (x .args .kind) (x .args .s .now) _ (c .before .before .before .before .before .head .ensures) _ (c .before .before .before .before .before .before .before .width .ensures) _ _ _ multiple (c .lcm-from .ensures)
 
 pub +lcm-from-spec : {M : Type 1} → statement M
 +lcm-from-spec = close μ-lcm-from λ t. lcm-from-lts.spec (width-reads.Asked, width-reads.Learnt, head-reads.Asked, head-reads.Learnt, gcd-reads.Asked, gcd-reads.Learnt, lcm-from-below t, lcm-from.Post)

@@ -2,7 +2,7 @@ use mathlib.Core.Path.{sym, _∙_}
 use native.Mathlib.Nat.{pos-of-ne-zero}
 use native.Mathlib.Omega.{arith}
 use Rattle.demand.proofs.Refused.{refusal-in-range}
-use Rattle.verdict.proofs.Heads.{period-over, tasks-multiple, period-read}
+use Rattle.verdict.proofs.Capped.{period-over, tasks-multiple, period-read}
 use Rattle.verdict.proofs.multiples.of_table.Statement.{statement}
 use Rattle.verdict.proofs.multiples.of_table.Tie as tie
 

@@ -1,4 +1,4 @@
--- The functions that go row by row, in the form in which the code meets them: no row left, and one row and the rest.
+-- H as the code builds it: row by row, no row left, and one row and the rest; capped at the limit.
 use mathlib.Core.Bool.{Bool, true, false}
 use mathlib.Core.List.{List, _∷_}
 use mathlib.Core.Path.{_≡_, refl, ap, _∙_}
@@ -10,65 +10,31 @@ use lib.ListN.{length}
 use Prim.Native.Nat.{ℕ, _+_, _*_, _/_, _≤_, _<_}
 use Rattle.demand.specs.Limits.{figureMost, ticksMost}
 use Rattle.demand.specs.Refusals.{tableRefusal, FairRow}
-use Rattle.demand.specs.Rows.{Row, rowsOf, width, tasksOf, handlersOf, Each, Sound, Valid}
+use Rattle.demand.specs.Rows.{Row, rowsOf, width, tasksOf, handlersOf, Each, rest}
 use Rattle.demand.specs.Tests.{pick}
-use Rattle.demand.specs.Walk.{rest}
-use Rattle.demand.specs.declared.readable.Kind.{Kind}
+use Rattle.demand.specs.declared.table.Kind.{Kind}
 use Rattle.demand.proofs.Sizes.{fair-positive, tasks-valid, handlers-positive}
-use Rattle.demand.proofs.Slices.{rows-short, from, from-width}
+use Rattle.demand.proofs.Slices.{rows-short, from, from-width, each-head}
 use Rattle.demand.proofs.Sums.{valid-positive}
-use Rattle.verdict.specs.Loads.{workBy, work, costs, slackBy, slack}
 use Rattle.verdict.specs.Multiples.{gcd, lcm, lcmFrom, period, capped}
 use Rattle.verdict.proofs.Divisors.{lcm-from-nil, lcm-from-cons, lcm-from-le, lcm-from-positive, lcm-positive}
-use Rattle.verdict.proofs.Loads.{work-nil, work-cons, costs-nil, costs-cons, slack-nil, slack-cons}
 
 module _ (kind : Kind) (s : List ℕ) (h : length s < width kind) where
-  pub work-short : (m : ℕ) → work m (rowsOf kind s) ≡ 0
-  work-short m = rw (rows-short kind s h) (work-nil m)
-
-  pub costs-short : costs (rowsOf kind s) ≡ 0
-  costs-short = rw (rows-short kind s h) costs-nil
-
-  pub slack-short : (m : ℕ) → slack m (rowsOf kind s) ≡ 0
-  slack-short m = rw (rows-short kind s h) (slack-nil m)
-
   pub lcm-short : (a : ℕ) → a ≤ ticksMost → a ≡ capped (lcmFrom a (rowsOf kind s))
   lcm-short a most = rw (rows-short kind s h, lcm-from-nil a, le-ltb ticksMost a most)
 
 module _ (kind : Kind) (s : List ℕ) (r : Row) (e : rowsOf kind s ≡ r ∷ rowsOf kind (rest kind s)) where
-  pub work-head : (m x : ℕ) → x ≡ work m (rowsOf kind (rest kind s)) → workBy m r + x ≡ work m (rowsOf kind s)
-  work-head m x q = rw (e, work-cons m r (rowsOf kind (rest kind s)), q)
-
-  -- the same where the code has the width of a row in hand
-  pub work-step : (n : ℕ) → n ≡ width kind → (m x : ℕ) → x ≡ work m (rowsOf kind (from n s)) → workBy m r + x ≡ work m (rowsOf kind s)
-  work-step n w m x q = work-head m x (q ∙ ap (λ (z : List ℕ). work m (rowsOf kind z)) (from-width kind s n w))
-
-  pub costs-head : (x : ℕ) → x ≡ costs (rowsOf kind (rest kind s)) → r .cost + x ≡ costs (rowsOf kind s)
-  costs-head x q = rw (e, costs-cons r (rowsOf kind (rest kind s)), q)
-
-  pub slack-head : (m x : ℕ) → x ≡ slack m (rowsOf kind (rest kind s)) → slackBy m r + x ≡ slack m (rowsOf kind s)
-  slack-head m x q = rw (e, slack-cons m r (rowsOf kind (rest kind s)), q)
-
-  pub fair-rest : Each FairRow (rowsOf kind s) → FairRow r × Each FairRow (rowsOf kind (rest kind s))
-  fair-rest f = rw e at f
-
-  pub sound-rest : Valid (rowsOf kind s) → Sound r × Valid (rowsOf kind (rest kind s))
-  sound-rest v = rw e at v
-
   -- A partial multiple above the limit: the whole is too.
   pub lcm-over : (a : ℕ) → 0 < a → Each FairRow (rowsOf kind s) → ticksMost < lcm a (r .period) → 0 ≡ capped (lcmFrom a (rowsOf kind s))
   lcm-over a pos fair over =
-      let f = fair-rest fair in
+      let f = each-head kind s r e (width kind) refl FairRow fair in
       let whole : lcm a (r .period) ≤ lcmFrom (lcm a (r .period)) (rowsOf kind (rest kind s)) =
       lcm-from-le (lcm a (r .period)) (rowsOf kind (rest kind s)) (lcm-positive a (r .period) pos (f .0 .period .least)) (fair-positive (rowsOf kind (rest kind s)) (f .1)) in
       rw (e, lcm-from-cons a r (rowsOf kind (rest kind s)), lt-ltb ticksMost (lcmFrom (lcm a (r .period)) (rowsOf kind (rest kind s))) (omega arith))
 
-  pub lcm-on : (a x : ℕ) → x ≡ capped (lcmFrom (lcm a (r .period)) (rowsOf kind (rest kind s))) → x ≡ capped (lcmFrom a (rowsOf kind s))
-  lcm-on a x q = rw (e, lcm-from-cons a r (rowsOf kind (rest kind s))) q
-
-  pub lcm-step : (n : ℕ) → n ≡ width kind → (a b x : ℕ) → b ≡ lcm a (r .period) → x ≡ capped (lcmFrom b (rowsOf kind (from n s))) → x ≡ capped (lcmFrom a (rowsOf kind s))
-  lcm-step n w a b x eb q =
-      lcm-on a x (q ∙ ap (λ (z : List ℕ). capped (lcmFrom b (rowsOf kind z))) (from-width kind s n w) ∙ ap (λ (y : ℕ). capped (lcmFrom y (rowsOf kind (rest kind s)))) eb)
+  -- Else it is that of the multiple so far and the rest, of which the code has the width n of a row in hand.
+  pub lcm-head : (n : ℕ) → n ≡ width kind → (a b x : ℕ) → b ≡ lcm a (r .period) → x ≡ capped (lcmFrom b (rowsOf kind (from n s))) → x ≡ capped (lcmFrom a (rowsOf kind s))
+  lcm-head n w a b x eb q = q ∙ rw (e, lcm-from-cons a r (rowsOf kind (rest kind s)), eb, from-width kind s n w)
 
 -- The partial multiple, as the code makes it: by the divisor in hand. It fits a word.
 pub lcm-read : (a g p : ℕ) → g ≡ gcd a p → a / g * p ≡ lcm a p

@@ -4,8 +4,8 @@ use Prim.Native.Nat.{ℕ, _-_}
 use native.Mathlib.Omega.{arith}
 use Rattle.demand.proofs.Slices.{width-least, head-read}
 use borrow.Author.Needs.{needs}
-use Rattle.demand.proofs.readable.head.Statement.{statement}
-use Rattle.demand.proofs.readable.head.Tie as tie
+use Rattle.demand.proofs.table.head.Statement.{statement}
+use Rattle.demand.proofs.table.head.Tie as tie
 
 width-requires : tie.Need-width-requires
 width-requires c κs = search needs

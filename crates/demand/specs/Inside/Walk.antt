@@ -1,24 +1,14 @@
 -- How f and a search walk up: from one deadline of a row to the next, where each row arrives at 0 and every period. A handler's deadline is its period, so its next arrival. Nothing of 01 stands here.
 --   deadlineAfter at r      == the first deadline of row r above `at`
 --   nextDeadline rs at top  == the first deadline of a row of rs above `at`, or top where that comes first
---   rest kind s             == the lent list s behind its first row
---   rowOf r                 == the row that the code holds as r
 --   Small rs l              so few rows with such figures that a total over l ticks fits a word
 use mathlib.Core.List.{List, [], _∷_}
-use Prim.Native.Nat.{ℕ, _+_, _-_, _*_, _≤_, min}
-use lib.ListN.{length, take, drop}
+use Prim.Native.Nat.{ℕ, _+_, _*_, _≤_, min}
+use lib.ListN.{length}
 use Rattle.demand.specs.Demands.{within}
 use Rattle.demand.specs.Limits.{tasksMost, ticksMost}
 use Rattle.demand.specs.Refusals.{FairRow}
-use Rattle.demand.specs.Rows.{Row, width, Each}
-use Rattle.demand.specs.declared.readable.Kind.{Kind}
-use Rattle.demand.specs.declared.readable.Row as code
-
-abbrev pub rest : Kind → List ℕ → List ℕ
-rest kind s = take (length s - width kind) (drop (width kind) s)
-
-abbrev pub rowOf : code.Row → Row
-rowOf r = record { cost = r .cost; period = r .period; deadline = r .deadline }
+use Rattle.demand.specs.Rows.{Row, Each}
 
 abbrev pub deadlineAfter : ℕ → Row → ℕ
 deadlineAfter at r = r .deadline + within at (r .deadline) (r .period) * r .period
