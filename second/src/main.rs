@@ -1,6 +1,6 @@
 //! Compares the proved library with the slow second program on many tables.
-//!     second SEED COUNT FIT    COUNT tables of each kind, and as many files through the program FIT;
-//!                              ends with status 1 at the first difference, and prints what shows it
+//!     second SEED COUNT FIT ANSWERS    COUNT tables of each kind through the program ANSWERS (second/answers.c), and as many files
+//!                                      through the program FIT; ends with status 1 at the first difference, and prints what shows it
 
 mod files;
 mod model;
@@ -117,10 +117,11 @@ fn read_all(random: &mut Random, count: u64, program: &str) -> (u64, u64) {
 fn main() {
     let words: Vec<String> = std::env::args().skip(1).collect();
     let numbers: Vec<u64> = words.iter().filter_map(|a| a.parse().ok()).collect();
-    let ([seed, count], Some(program)) = (&numbers[..], words.get(2)) else {
-        eprintln!("usage: second SEED COUNT FIT");
+    let ([seed, count], Some(program), Some(answers)) = (&numbers[..], words.get(2), words.get(3)) else {
+        eprintln!("usage: second SEED COUNT FIT ANSWERS");
         exit(2);
     };
+    proved::start(answers);
     let (seed, count) = (*seed, *count);
     let mut random = Random::new(seed);
     let mut counts = Counts::default();

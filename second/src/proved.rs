@@ -1,34 +1,88 @@
-//! The proved library, as C sees it (include/cowriedash.h).
+//! The proved libraries, asked through a pipe (second/answers.c stands at its other end).
 
-use std::ffi::c_uint;
+use std::io::{Read, Write};
+use std::process::{Child, Command, Stdio};
+use std::sync::Mutex;
 
-extern "C" {
-    fn cowriedash_verdict(t: *const u32, nt: usize, h: *const u32, nh: usize, out: *mut u64);
-    fn cowriedash_handler_demand(t: *const u32, nt: usize, h: *const u32, nh: usize, l: u64, out: *mut u64);
-    fn cowriedash_task_demand(t: *const u32, nt: usize, h: *const u32, nh: usize, l: u64, out: *mut u64);
-    fn cowriedash_margin(t: *const u32, nt: usize, h: *const u32, nh: usize, l: u64, out: *mut i64) -> c_uint;
+static ANSWERS: Mutex<Option<Child>> = Mutex::new(None);
+
+/// Starts the program that answers.
+pub fn start(program: &str) {
+    let child = Command::new(program).stdin(Stdio::piped()).stdout(Stdio::piped()).spawn().expect("the program that answers");
+    *ANSWERS.lock().unwrap() = Some(child);
 }
 
-pub fn verdict(t: &[u32], h: &[u32]) -> [u64; 6] {
-    let mut out = [u64::MAX; 6];
-    unsafe { cowriedash_verdict(t.as_ptr(), t.len(), h.as_ptr(), h.len(), out.as_mut_ptr()) };
-    out
+/// A question, and so many bytes of answer.
+fn ask(question: &[u8], size: usize) -> Vec<u8> {
+    let mut held = ANSWERS.lock().unwrap();
+    let child = held.as_mut().expect("a program that answers");
+    let pipe = child.stdin.as_mut().unwrap();
+    pipe.write_all(question).and_then(|()| pipe.flush()).expect("a question");
+    let mut answer = vec![0; size];
+    child.stdout.as_mut().unwrap().read_exact(&mut answer).expect("an answer");
+    answer
 }
 
-pub fn handler_demand(t: &[u32], h: &[u32], l: u64) -> [u64; 2] {
-    let mut out = [u64::MAX; 2];
-    unsafe { cowriedash_handler_demand(t.as_ptr(), t.len(), h.as_ptr(), h.len(), l, out.as_mut_ptr()) };
-    out
+/// Numbers laid out byte by byte, as C has them.
+#[derive(Default)]
+pub struct Laid(Vec<u8>);
+
+impl Laid {
+    pub fn question(number: u64) -> Laid {
+        Laid(number.to_le_bytes().to_vec())
+    }
+    pub fn number(mut self, n: u64) -> Laid {
+        self.0.extend(n.to_le_bytes());
+        self
+    }
+    pub fn words(mut self, list: &[u32]) -> Laid {
+        list.iter().for_each(|w| self.0.extend(w.to_le_bytes()));
+        self
+    }
+    pub fn longs(mut self, list: &[u64]) -> Laid {
+        list.iter().for_each(|w| self.0.extend(w.to_le_bytes()));
+        self
+    }
+    pub fn list(self, list: &[u32]) -> Laid {
+        self.number(list.len() as u64).words(list)
+    }
+    pub fn answer(self, size: usize) -> Answered {
+        Answered(ask(&self.0, size).into_iter())
+    }
 }
 
-pub fn task_demand(t: &[u32], h: &[u32], l: u64) -> [u64; 2] {
-    let mut out = [u64::MAX; 2];
-    unsafe { cowriedash_task_demand(t.as_ptr(), t.len(), h.as_ptr(), h.len(), l, out.as_mut_ptr()) };
-    out
+/// An answer, read from its front.
+pub struct Answered(std::vec::IntoIter<u8>);
+
+impl Answered {
+    fn bytes<const N: usize>(&mut self) -> [u8; N] {
+        std::array::from_fn(|_| self.0.next().expect("a byte of the answer"))
+    }
+    pub fn words(&mut self, count: usize) -> Vec<u32> {
+        (0..count).map(|_| u32::from_le_bytes(self.bytes())).collect()
+    }
+    pub fn longs(&mut self, count: usize) -> Vec<u64> {
+        (0..count).map(|_| u64::from_le_bytes(self.bytes())).collect()
+    }
+}
+
+fn about(question: u64, t: &[u32], h: &[u32]) -> Laid {
+    Laid::question(question).list(t).list(h)
+}
+
+pub fn verdict(t: &[u32], h: &[u32]) -> Vec<u64> {
+    about(1, t, h).answer(48).longs(6)
+}
+
+pub fn handler_demand(t: &[u32], h: &[u32], l: u64) -> Vec<u64> {
+    about(2, t, h).number(l).answer(16).longs(2)
+}
+
+pub fn task_demand(t: &[u32], h: &[u32], l: u64) -> Vec<u64> {
+    about(3, t, h).number(l).answer(16).longs(2)
 }
 
 pub fn margin(t: &[u32], h: &[u32], l: u64) -> (u32, i64) {
-    let mut out = i64::MAX;
-    let code = unsafe { cowriedash_margin(t.as_ptr(), t.len(), h.as_ptr(), h.len(), l, &mut out) };
-    (code, out)
+    let out = about(4, t, h).number(l).answer(16).longs(2);
+    (out[0] as u32, out[1] as i64)
 }

@@ -1,62 +1,26 @@
 //! Whole runs of the proved scheduler beside the plain one, tick by tick, with legal and illegal arrivals, and single
 //! steps of runs made of any numbers at all.
 
+use crate::proved::{Answered, Laid};
 use crate::random::Random;
 use crate::scheduler::{self, Answer, Ran, Run};
 use crate::tables::{self, Table};
-
-extern "C" {
-    fn harness_fresh(
-        tasks: *const u32, nt: usize, handlers: *const u32, nh: usize,
-        t: *mut u32, h: *mut u32, next: *mut u64, due: *mut u64, owed: *mut u64, figures: *mut u64,
-    );
-    fn harness_step(
-        t: *const u32, h: *const u32, next: *mut u64, due: *mut u64, owed: *mut u64, figures: *mut u64,
-        arrivals: *const u32, n: usize,
-    );
-}
 
 fn late(number: u64) -> Option<u64> {
     number.checked_sub(1)
 }
 
-/// The proved fresh run, and its refusal.
-fn proved_fresh(table: &Table) -> (Run, u64) {
-    let (mut t, mut h, mut next, mut due, mut owed, mut g) = ([9u32; 192], [9u32; 32], [9u64; 80], [9u64; 64], [9u64; 80], [9u64; 9]);
-    unsafe {
-        harness_fresh(
-            table.tasks.as_ptr(), table.tasks.len(), table.handlers.as_ptr(), table.handlers.len(),
-            t.as_mut_ptr(), h.as_mut_ptr(), next.as_mut_ptr(), due.as_mut_ptr(), owed.as_mut_ptr(), g.as_mut_ptr(),
-        )
-    };
-    let run = Run {
-        tasks: t.to_vec(),
-        handlers: h.to_vec(),
-        task_count: g[0],
-        handler_count: g[1],
-        clock: g[2],
-        next: next.to_vec(),
-        due: due.to_vec(),
-        owed: owed.to_vec(),
-        over: g[3] != 0,
-        late: late(g[4]),
-    };
-    (run, g[5])
-}
+/// The bytes of a run, as the harness lays it out.
+const RUN: usize = 4 * (192 + 32) + 8 * (80 + 64 + 80 + 9);
 
-/// The proved step.
-fn proved_step(run: &Run, arrivals: &[u32]) -> (Run, Answer) {
-    let (mut next, mut due, mut owed) = (run.next.clone(), run.due.clone(), run.owed.clone());
-    let mut g = [run.task_count, run.handler_count, run.clock, run.over as u64, run.late.map_or(0, |i| i + 1), 0, 0, 0, 0];
-    unsafe {
-        harness_step(
-            run.tasks.as_ptr(), run.handlers.as_ptr(), next.as_mut_ptr(), due.as_mut_ptr(), owed.as_mut_ptr(), g.as_mut_ptr(),
-            arrivals.as_ptr(), arrivals.len(),
-        )
-    };
-    let after = Run {
-        tasks: run.tasks.clone(),
-        handlers: run.handlers.clone(),
+/// A run and the figures behind it, from an answer.
+fn laid(mut answer: Answered) -> (Run, Vec<u64>) {
+    let (tasks, handlers) = (answer.words(192), answer.words(32));
+    let (next, due, owed) = (answer.longs(80), answer.longs(64), answer.longs(80));
+    let g = answer.longs(9);
+    let run = Run {
+        tasks,
+        handlers,
         task_count: g[0],
         handler_count: g[1],
         clock: g[2],
@@ -66,6 +30,20 @@ fn proved_step(run: &Run, arrivals: &[u32]) -> (Run, Answer) {
         over: g[3] != 0,
         late: late(g[4]),
     };
+    (run, g)
+}
+
+/// The proved fresh run, and its refusal.
+fn proved_fresh(table: &Table) -> (Run, u64) {
+    let (run, g) = laid(Laid::question(5).list(&table.tasks).list(&table.handlers).answer(RUN));
+    (run, g[5])
+}
+
+/// The proved step.
+fn proved_step(run: &Run, arrivals: &[u32]) -> (Run, Answer) {
+    let figures = [run.task_count, run.handler_count, run.clock, run.over as u64, run.late.map_or(0, |i| i + 1), 0, 0, 0, 0];
+    let question = Laid::question(6).words(&run.tasks).words(&run.handlers).longs(&run.next).longs(&run.due).longs(&run.owed);
+    let (after, g) = laid(question.longs(&figures).list(arrivals).answer(RUN));
     let ran = match g[6] {
         1 => Ran::Handler(g[7]),
         2 => Ran::Task(g[7]),
