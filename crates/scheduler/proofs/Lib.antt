@@ -1,11 +1,4 @@
-pub mod Machine
 pub mod Steps
 pub mod Reached
-pub mod Join
-pub mod LegalArrivals
-pub mod NeverLate
-pub mod NoScheduler
-pub mod LateExactly
-pub mod OurRun
-pub mod Apart
-pub mod Instances
+pub mod Books
+pub mod Rule

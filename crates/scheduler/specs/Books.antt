@@ -8,7 +8,7 @@ use mathlib.Core.List.{List, [], _∷_}
 use mathlib.Core.Path.{_≡_}
 use Prim.Native.Nat.{ℕ, _+_}
 use lib.ListN.{take}
-use Rattle.scheduler.specs.Machine.{Live}
+use Rattle.machine.specs.Live.{Live}
 use Rattle.scheduler.specs.Reached.{offeredBy}
 use Rattle.scheduler.specs.Runs.{rowCount}
 use Rattle.scheduler.specs.Start.{freshOf}

@@ -1,6 +1,3 @@
-pub mod Machine
-pub mod Schedules
-pub mod Places
 pub mod Scans
 pub mod Runs
 pub mod Bounds
@@ -10,5 +7,3 @@ pub mod Start
 pub mod Reached
 pub mod Books
 pub mod Rule
-pub mod View
-pub mod Guarantees

@@ -7,7 +7,7 @@ use mathlib.Core.List.{List, [], _∷_}
 use mathlib.Core.Path.{_≡_}
 use Prim.Native.Nat.{ℕ}
 use Rattle.scheduler.specs.Bounds.{InBounds}
-use Rattle.scheduler.specs.Machine.{Live, dueOf}
+use Rattle.machine.specs.Live.{Live, dueOf}
 use Rattle.scheduler.specs.Runs.{Shaped}
 use Rattle.scheduler.specs.Start.{freshOf}
 use Rattle.scheduler.specs.Steps.{stepBy}

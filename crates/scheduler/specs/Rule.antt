@@ -7,7 +7,7 @@ use mathlib.Core.List.{List}
 use mathlib.Core.Path.{_≡_}
 use Prim.Native.Nat.{ℕ, _<_}
 use Rattle.demand.specs.Refusals.{tableRefusal}
-use Rattle.scheduler.specs.Machine.{Live}
+use Rattle.machine.specs.Live.{Live}
 use Rattle.scheduler.specs.Runs.{rowIn, rowCount}
 use Rattle.scheduler.specs.Start.{noRun, freshOf, startFigures}
 use Rattle.scheduler.specs.Steps.{stepRefusal, stepBy, stepOf, noFigures, figures}

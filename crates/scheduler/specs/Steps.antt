@@ -14,7 +14,7 @@ use Rattle.demand.specs.Limits.{ticksMost}
 use Rattle.demand.specs.Rows.{Row}
 use Rattle.demand.specs.Tests.{pick, refuse}
 use Rattle.scheduler.specs.Bounds.{outOfBounds}
-use Rattle.scheduler.specs.Machine.{Live, dueOf}
+use Rattle.machine.specs.Live.{Live, dueOf}
 use Rattle.scheduler.specs.Runs.{rowIn, rowCount}
 use Rattle.scheduler.specs.Scans.{any}
 use Rattle.scheduler.specs.Tick.{tickedBy}

@@ -20,7 +20,7 @@ use lib.ListN.{getD, set}
 use Rattle.demand.specs.Limits.{tasksMost, handlersMost}
 use Rattle.demand.specs.Rows.{Row}
 use Rattle.demand.specs.Tests.{pick}
-use Rattle.scheduler.specs.Machine.{Live}
+use Rattle.machine.specs.Live.{Live}
 use Rattle.scheduler.specs.Runs.{runOf, rowIn, rowCount}
 use Rattle.scheduler.specs.Scans.{at, firstOf, filled}
 use Rattle.scheduler.specs.declared.Answer.the-variants.{Ticked}

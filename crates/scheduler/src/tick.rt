@@ -2,7 +2,7 @@
 ghost use mathlib.Core.Path.{_≡_};
 ghost use Prim.Native.Nat.{_+_, _<_, _≤_};
 ghost use Rattle.demand.specs.Limits.{ticksMost};
-ghost use Rattle.scheduler.specs.Machine.{dueOf};
+ghost use Rattle.machine.specs.Live.{dueOf};
 ghost use Rattle.scheduler.specs.Scans.{at};
 ghost use Rattle.scheduler.specs.Steps.{stepRefusal};
 ghost use Rattle.scheduler.specs.Tick.{better, earliest, goesTo, paid, Payable, lateRow, isTask, closed, tickedBy};

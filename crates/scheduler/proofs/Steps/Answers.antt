@@ -1,8 +1,11 @@
 -- The refusals of a step one after the other, and what a step that is not refused has passed.
---   Passed r ws   no refusal of 6 to 11 applies
+--   Passed r ws        no refusal of 6 to 11 applies
+--   Outcome key r ws   the step is refused, or passes every test and is the tick
 use mathlib.Core.Bool.{true, false, not}
 use mathlib.Core.List.{List}
-use mathlib.Core.Path.{_≡_}
+use mathlib.Core.Logic.{_⊎_, inl, inr}
+use mathlib.Core.Path.{_≡_, refl}
+use native.Mathlib.Nat.{eq-zero-or-pos}
 use native.Mathlib.Omega.{arith}
 use borrow.Author.Tests.{eqb-true, eqb-false, eq-eqb, ne-eqb, not-false}
 use Prim.Native.Nat.{ℕ, _≤_, _<_}
@@ -11,7 +14,7 @@ use lib.ListN.{length}
 use Rattle.demand.proofs.Refused.{not-refused}
 use Rattle.demand.specs.Limits.{ticksMost}
 use Rattle.scheduler.specs.Bounds.{outOfBounds, InBounds}
-use Rattle.scheduler.specs.Machine.{Live}
+use Rattle.machine.specs.Live.{Live}
 use Rattle.scheduler.specs.Runs.{rowIn, rowCount}
 use Rattle.scheduler.specs.Scans.{any}
 use Rattle.scheduler.specs.Steps.{early, heavy, stepRefusal, refused, stepBy}
@@ -94,3 +97,15 @@ step-ticks key r ws e = simp (eq-eqb _ _ e)
 pub step-refused : (key : Live → ℕ) (r : Run) (ws : List ℕ) (k : ℕ) → k ≡ stepRefusal r ws → (k ≡ 0 → ⊥) → stepBy key r ws ≡ refused r k
 unfolding stepBy
 step-refused key r ws k e n = rw (← e, ne-eqb k 0 n)
+
+-- A step is refused, or passes every test and is the tick.
+pub data Outcome (key : Live → ℕ) (r : Run) (ws : List ℕ) : Type 0 where
+  stays : (k : ℕ) → stepBy key r ws ≡ refused r k → Outcome key r ws
+  goes : Passed r ws → stepBy key r ws ≡ tickedBy key r ws → Outcome key r ws
+
+pub outcome : (key : Live → ℕ) (r : Run) (ws : List ℕ) → Outcome key r ws
+outcome key r ws = go (eq-zero-or-pos (stepRefusal r ws))
+  where
+    go : (stepRefusal r ws ≡ 0) ⊎ (0 < stepRefusal r ws) → Outcome key r ws
+    go (inl none) = goes (passed r ws none) (step-ticks key r ws none)
+    go (inr some) = stays (stepRefusal r ws) (step-refused key r ws (stepRefusal r ws) refl (λ none. omega arith))

@@ -4,7 +4,7 @@ use mathlib.Core.List.{List}
 use mathlib.Core.Path.{_≡_}
 use Prim.Native.Nat.{ℕ, _+_}
 use lib.ListN.{length}
-use Rattle.scheduler.specs.Machine.{dueOf}
+use Rattle.machine.specs.Live.{dueOf}
 use Rattle.scheduler.specs.Runs.{rowIn, rowCount}
 use Rattle.scheduler.specs.Scans.{at}
 use Rattle.scheduler.specs.Tick.{nextArrived, dueArrived, owedArrived, goesTo, paid, lateRow, isTask, closed, tickedBy}

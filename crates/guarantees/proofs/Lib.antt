@@ -1,0 +1,10 @@
+pub mod LegalArrivals
+pub mod PeriodApart
+pub mod View
+pub mod Synchronous
+pub mod Named
+pub mod NeverLate
+pub mod LateExactly
+pub mod NoScheduler
+pub mod OurRun
+pub mod Instances

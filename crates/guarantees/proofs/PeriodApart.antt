@@ -1,0 +1,70 @@
+-- Two accepted arrivals of a row are at least its period apart: its next legal tick never moves back.
+use mathlib.Core.List.{List, [], _∷_}
+use mathlib.Core.Path.{_≡_, sym, ap, subst}
+use native.Mathlib.Omega.{arith}
+use Prim.Native.Nat.{ℕ, _+_, _≤_, _<_}
+use lib.ListN.{getD}
+use Rattle.guarantees.specs.PeriodApart.{PeriodApart}
+use Rattle.machine.specs.Live.{dueOf}
+use Rattle.scheduler.specs.Reached.{offeredBy, offered, Sound}
+use Rattle.scheduler.specs.Runs.{rowIn, rowCount}
+use Rattle.scheduler.specs.Steps.{stepOf}
+use Rattle.scheduler.specs.Tick.{tickedBy}
+use Rattle.scheduler.specs.declared.Run.{Run}
+use Rattle.scheduler.specs.declared.Stepped.{Stepped}
+use Rattle.scheduler.proofs.Steps.Answers.{Passed, passed, step-ticks}
+use Rattle.scheduler.proofs.Reached.{step-in-bounds, offered-in-bounds}
+use Rattle.guarantees.proofs.View.Steps.{Told, told}
+use Rattle.guarantees.proofs.View.Steps.Told.{accepted, unchanged}
+use Rattle.scheduler.proofs.Reached.Keeps.{Came}
+use Rattle.scheduler.proofs.Reached.Keeps.Came.{nothing, legal}
+use Rattle.scheduler.proofs.Reached.KeepsBounds.{nextNow, arrival}
+use Rattle.guarantees.proofs.LegalArrivals.{passed-legal, legal-arrivals}
+
+module _ (r : Run) (ws : List ℕ) where
+  -- A step adds no row.
+  count-stays : rowCount (stepOf r ws .run) ≡ rowCount r
+  unfolding tickedBy
+  count-stays = go (told dueOf r ws)
+    where
+      go : Told dueOf r ws → rowCount (stepOf r ws .run) ≡ rowCount r
+      go (accepted a) = ap (λ (x : Stepped). rowCount (x .run)) (step-ticks dueOf r ws a)
+      go (unchanged e) = ap (λ (x : Run). rowCount x) e
+
+  -- A next legal tick stays, or an arrival that is not before it moves it on.
+  next-grows : Sound r → (k : ℕ) → k < rowCount r → getD (r .next) k 0 ≤ getD (stepOf r ws .run .next) k 0
+  unfolding tickedBy
+  next-grows s k l = go (told dueOf r ws)
+    where
+      moved : (p : Passed r ws) → Came (r .clock) (rowIn r k) (getD (r .next) k 0) (getD ws k 0) (getD (nextNow r ws (s .shaped) p) k 0)
+          → getD (r .next) k 0 ≤ getD (nextNow r ws (s .shaped) p) k 0
+      moved p (nothing none same) = omega arith
+      moved p (legal some on timely light) = omega arith
+
+      go : Told dueOf r ws → getD (r .next) k 0 ≤ getD (stepOf r ws .run .next) k 0
+      go (unchanged e) = rw e (omega arith)
+      go (accepted a) =
+          let p : Passed r ws = passed r ws a in
+          subst (λ (x : Stepped). getD (r .next) k 0 ≤ getD (x .run .next) k 0) (sym (step-ticks dueOf r ws a)) (moved p (arrival r ws (s .shaped) p k l))
+
+-- So over any offers.
+record Grown (r after : Run) (k : ℕ) : Type 0 where
+  row : k < rowCount after
+  next : getD (r .next) k 0 ≤ getD (after .next) k 0
+
+offered-grows : (offers : List (List ℕ)) (r : Run) (k : ℕ) → Sound r → k < rowCount r → Grown r (offered offers r) k
+unfolding offeredBy
+offered-grows [] r k s l = record { row = l; next = omega arith }
+offered-grows (ws ∷ offers) r k s l =
+    let rest = offered-grows offers (stepOf r ws .run) k (step-in-bounds dueOf r ws s) (omega (arith, count-stays r ws)) in
+    record { row = rest .row; next = omega (arith, rest .next, next-grows r ws s k l) }
+
+pub period-apart : PeriodApart
+period-apart r ws ws' offers k s l a some a' some' =
+    let p : Passed r ws = passed r ws a in
+    let next : Run = stepOf r ws .run in
+    let s' : Sound next = step-in-bounds dueOf r ws s in
+    let grown = offered-grows offers next k s' (omega (arith, count-stays r ws)) in
+    let then = passed-legal (offered offers next) ws' (offered-in-bounds dueOf offers next s' .shaped) (passed (offered offers next) ws' a') k (grown .row) in
+    let moved : getD (next .next) k 0 ≡ r .clock + rowIn r k .period = legal-arrivals r ws s (p .going) (p .soon) .apart a k l some in
+    omega (arith, moved, grown .next, then .in-time some')

@@ -1,0 +1,134 @@
+-- The synchronous run of a table, as `fresh` and `step` make it, is the machine's synchronous run for as long as it is not over.
+--   Synced n   the run after n ticks of synchronous arrivals is sound, has the table's rows, and is seen as the machine's
+use mathlib.Core.Bool.{false}
+use mathlib.Core.List.{List, [], _∷_, _++_}
+use mathlib.Core.Path.{_≡_, refl, sym, ap, ap₂, subst, _∙_}
+use native.Mathlib.Omega.{arith}
+use Prim.Native.Nat.{ℕ, zero, suc, _+_, _≤_, _<_}
+use lib.ListN.{length, length-append}
+use Rattle.demand.proofs.Sizes.{tasks-valid, handlers-positive}
+use Rattle.demand.proofs.Sums.{valid-positive}
+use Rattle.demand.specs.Limits.{ticksMost}
+use Rattle.demand.specs.Refusals.{tableRefusal}
+use Rattle.demand.specs.Rows.{Row, tasksOf, handlersOf}
+use Rattle.guarantees.specs.LegalArrivals.{Accepted}
+use Rattle.guarantees.specs.Synchronous.{beatOf, beatsTo, syncRun}
+use Rattle.machine.specs.Live.{dueOf}
+use Rattle.machine.specs.Machine.{State, Arrivals, pick, tick, LegalTick}
+use Rattle.scheduler.specs.Reached.{offeredBy, offered, Sound}
+use Rattle.scheduler.specs.Runs.{rowCount, taskRows, handlerRows}
+use Rattle.machine.specs.Schedules.{beats}
+use Rattle.machine.specs.Machine.{beatsAt, syncBy, sync}
+use Rattle.scheduler.specs.Start.{freshOf}
+use Rattle.scheduler.specs.Steps.{stepOf}
+use Rattle.guarantees.specs.View.{viewOf, offerOf}
+use Rattle.scheduler.specs.declared.Run.{Run}
+use Rattle.scheduler.proofs.Steps.Answers.{passed}
+use Rattle.machine.proofs.Beats.{beats-length}
+use Rattle.guarantees.proofs.View.Fresh.{fresh-run, fresh-sound, fresh-tasks, fresh-handlers, fresh-view}
+use Rattle.scheduler.proofs.Reached.{step-in-bounds}
+use Rattle.guarantees.proofs.View.Steps.{Told, told, step-tasks, step-handlers, step-view}
+use Rattle.guarantees.proofs.View.Steps.Told.{accepted, unchanged}
+use Rattle.machine.proofs.Least.{sync-clock, sync-legal}
+use Rattle.guarantees.proofs.View.Parts.{front-of, back-of}
+use Rattle.machine.proofs.Sync.{pick-ran}
+use Rattle.guarantees.proofs.View.Rows.{task-rows, handler-rows}
+use Rattle.guarantees.proofs.View.Arrives.{tick-accepted}
+
+-- The last of several offers is a step of the run after the others.
+offered-last : (offers : List (List ℕ)) (ws : List ℕ) (r : Run) → offered (offers ++ (ws ∷ [])) r ≡ stepOf (offered offers r) ws .run
+unfolding offeredBy
+offered-last [] ws r = refl
+offered-last (x ∷ offers) ws r = offered-last offers ws (stepOf r x .run)
+
+module _ (t h : List ℕ) (e : tableRefusal t h ≡ 0) where
+  abbrev ts : List Row
+  ts = tasksOf t
+
+  abbrev hs : List Row
+  hs = handlersOf h
+
+  -- Tick n is a step with the arrivals of tick n.
+  pub sync-next : (n : ℕ) → syncRun t h (suc n) ≡ stepOf (syncRun t h n) (beatOf t h n) .run
+  unfolding beatsTo
+  sync-next n = offered-last (beatsTo t h n) (beatOf t h n) (freshOf t h .run)
+
+  pub record Synced (n : ℕ) : Type 0 where
+    pub sound : Sound (syncRun t h n)
+    pub tasks-are : taskRows (syncRun t h n) ≡ tasksOf t
+    pub handlers-are : handlerRows (syncRun t h n) ≡ handlersOf h
+    pub view : viewOf (syncRun t h n) ≡ sync n (tasksOf t) (handlersOf h)
+
+  -- At the start.
+  pub synced-fresh : Synced 0
+  unfolding beatsTo offeredBy syncBy
+  synced-fresh =
+      let same = fresh-run t h e in
+      record {
+        sound = subst Sound (sym same) (fresh-sound t h e);
+        tasks-are = ap taskRows same ∙ fresh-tasks t h e;
+        handlers-are = ap handlerRows same ∙ fresh-handlers t h e;
+        view = ap viewOf same ∙ fresh-view t h e;
+      }
+
+  module _ (n : ℕ) (s : Synced n) where
+    abbrev run : Run
+    run = syncRun t h n
+
+    pub synced-clock : syncRun t h n .clock ≡ n
+    synced-clock = ap (λ (v : State). v .clock) (s .view) ∙ sync-clock (pick dueOf) ts hs n
+
+    -- The arrivals of tick n have a number for each row, ..
+    task-count : length (beats n ts) ≡ run .«task_count»
+    task-count = beats-length n ts ∙ ap (λ (rs : List Row). length rs) (sym (s .tasks-are)) ∙ task-rows run (s .sound) .count
+
+    handler-count : length (beats n hs) ≡ run .«handler_count»
+    handler-count = beats-length n hs ∙ ap (λ (rs : List Row). length rs) (sym (s .handlers-are)) ∙ handler-rows run (s .sound) .count
+
+    count : length (beatOf t h n) ≡ rowCount run
+    unfolding beatOf
+    count = length-append (beats n ts) (beats n hs) ∙ ap₂ _+_ task-count handler-count
+
+    -- .. and are the machine's.
+    offer : offerOf run (beatOf t h n) ≡ beatsAt n ts hs
+    unfolding beatOf
+    offer =
+        let tasks = front-of (beats n ts) (beats n hs) (run .«task_count») task-count in
+        let handlers = back-of (beats n ts) (beats n hs) (run .«task_count») task-count (run .«handler_count») handler-count in
+        λ i. record { toTasks = tasks i; toHandlers = handlers i }
+
+    -- So they are legal, and accepted where the run is not over.
+    legal : LegalTick (offerOf run (beatOf t h n)) (viewOf run)
+    legal =
+        subst (λ (v : State). LegalTick (offerOf run (beatOf t h n)) v) (sym (s .view))
+        (subst (λ (a : Arrivals). LegalTick a (sync n ts hs)) (sym offer)
+        (sync-legal (pick dueOf) (pick-ran dueOf) ts hs (valid-positive ts (tasks-valid t h e)) (handlers-positive t h e) n))
+
+    pub synced-accepted : n < ticksMost → syncRun t h n .over ≡ false → Accepted (syncRun t h n) (beatOf t h n)
+    synced-accepted soon going = tick-accepted run (beatOf t h n) (s .sound) going (omega (arith, synced-clock)) count legal
+
+    -- The tick is the machine's.
+    pub synced-next : n < ticksMost → syncRun t h n .over ≡ false → Synced (suc n)
+    unfolding syncBy
+    synced-next soon going =
+        let a = synced-accepted soon going in
+        let same = sync-next n in
+        record {
+          sound = subst Sound (sym same) (step-in-bounds dueOf run (beatOf t h n) (s .sound));
+          tasks-are = ap taskRows same ∙ step-tasks dueOf run (beatOf t h n) ∙ s .tasks-are;
+          handlers-are = ap handlerRows same ∙ step-handlers dueOf run (beatOf t h n) ∙ s .handlers-are;
+          view = ap viewOf same ∙ step-view dueOf run (beatOf t h n) (s .sound) a ∙ ap₂ (λ (x : Arrivals) (v : State). tick x v) offer (s .view);
+        }
+
+  -- Once over, always over.
+  pub going-before : (n : ℕ) → syncRun t h (suc n) .over ≡ false → syncRun t h n .over ≡ false
+  going-before n going = go (told dueOf (syncRun t h n) (beatOf t h n))
+    where
+      go : Told dueOf (syncRun t h n) (beatOf t h n) → syncRun t h n .over ≡ false
+      go (accepted a) = passed (syncRun t h n) (beatOf t h n) a .going
+      go (unchanged same) = ap (λ (r : Run). r .over) (sym (sync-next n ∙ same)) ∙ going
+
+  -- So the run is the machine's up to the first clock at which it is over.
+  pub synced : (n : ℕ) → n ≤ ticksMost → ((m : ℕ) → m < n → syncRun t h m .over ≡ false) → Synced n
+  synced zero soon going = synced-fresh
+  synced (suc n) soon going = synced-next n (synced n (omega arith) (λ m l. going m (omega arith))) (omega arith) (going n (omega arith))
