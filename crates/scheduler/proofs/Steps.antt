@@ -4,6 +4,7 @@ pub mod Clauses
 pub mod Copies
 pub mod Earliest
 pub mod Goes
+pub mod OnePass
 pub mod RowPlaces
 pub mod Scan
 pub mod Tables

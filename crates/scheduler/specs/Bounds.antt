@@ -93,10 +93,6 @@ dueAfterNext r = any (dueBehind (r .next) (r .due)) (r .«task_count»)
 abbrev pub passed : Bool → ℕ → ℕ → Bool
 passed over clock due = pick over (ltb due clock) (leb due clock)
 
--- the earliest deadline that has not passed
-abbrev pub earliestDue : Bool → ℕ → ℕ
-earliestDue over clock = pick over clock (clock + 1)
-
 abbrev pub missed : Bool → ℕ → (ℕ → ℕ) → List ℕ → ℕ → Bool
 missed over clock due owed k = ltb 0 (getD owed k 0) && passed over clock (due k)
 

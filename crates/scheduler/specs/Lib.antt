@@ -7,3 +7,4 @@ pub mod Start
 pub mod Reached
 pub mod Books
 pub mod Rule
+pub mod Inside

@@ -3,19 +3,16 @@ ghost use mathlib.Core.Bool.{false};
 ghost use mathlib.Core.Path.{_≡_};
 ghost use Prim.Native.Nat.{ℕ, _+_, _<_, _≤_};
 ghost use lib.ListN.{length, getD};
-ghost use Rattle.demand.specs.Limits.{ticksMost};
+ghost use Rattle.demand.specs.Limits.{tasksMost, ticksMost};
 ghost use Rattle.scheduler.specs.Bounds.{outsideAt, deadlineOutsideAt};
+ghost use Rattle.scheduler.specs.Inside.OnePass.{heavyTask, heavyHandler};
 ghost use Rattle.scheduler.specs.Runs.{rowOn, Fitting};
 ghost use Rattle.scheduler.specs.Scans.{any};
 ghost use Rattle.scheduler.specs.Steps.{early, heavy};
 ghost use Rattle.scheduler.specs.Tick.{ahead, nextArrived, dueArrived, owedArrived};
 use crate::rows;
-
-fn wide(x: u32) -> u64
-    ensures { λ r. ⌜ (r ≡ x) × (r < 4294967296) ⌝ }
-{
-    x as u64
-}
+use demand::table;
+use demand::table::Kind;
 
 // Does an arrival come before its row's next legal tick?
 pub fn some_early(next: &[u64; 80], arrivals: &[u32], clock: u64) -> bool
@@ -32,10 +29,43 @@ pub fn some_early(next: &[u64; 80], arrivals: &[u32], clock: u64) -> bool
     bad
 }
 
+// Does an arrival of one of n tasks bring more than its cost?
+fn tasks_heavy(tasks: &[u32; 192], n: usize, arrivals: &[u32]) -> bool
+    requires { ⌜ (n ≤ tasksMost) × (n ≤ length (now arrivals)) ⌝ }
+    ensures { λ r. ⌜ r ≡ any (heavyTask (now (tasks .entry)) (now (arrivals .entry))) n ⌝ }
+{
+    let mut bad = false;
+    let mut k = 0;
+    while k < n {
+        let row = rows::row_of(Kind::Task, tasks, k);
+        let w = table::wide(arrivals[k]);
+        bad = bad | (row.cost < w);
+        k += 1;
+    }
+    bad
+}
+
+// Does one of m handlers behind n tasks?
+fn handlers_heavy(handlers: &[u32; 32], n: usize, m: usize, arrivals: &[u32]) -> bool
+    requires { ⌜ Fitting n m × (length (now arrivals) ≡ n + m) ⌝ }
+    ensures { λ r. ⌜ r ≡ any (heavyHandler (now (handlers .entry)) (now (arrivals .entry)) n) m ⌝ }
+{
+    let mut bad = false;
+    let mut i = 0;
+    while i < m {
+        let row = rows::row_of(Kind::Handler, handlers, i);
+        let k = n + i;
+        let w = table::wide(arrivals[k]);
+        bad = bad | (row.cost < w);
+        i += 1;
+    }
+    bad
+}
+
 // Does an arrival bring more than its row's cost?
-pub fn some_heavy<'a>(
-    tasks: &'a [u32; 192],
-    handlers: &'a [u32; 32],
+pub fn some_heavy(
+    tasks: &[u32; 192],
+    handlers: &[u32; 32],
     n: usize,
     m: usize,
     arrivals: &[u32],
@@ -43,34 +73,9 @@ pub fn some_heavy<'a>(
     requires { ⌜ Fitting n m × (length (now arrivals) ≡ n + m) ⌝ }
     ensures { λ r. ⌜ r ≡ any (heavy (rowOn (now (tasks .entry)) (now (handlers .entry)) n) (now (arrivals .entry))) (length (now (arrivals .entry))) ⌝ }
 {
-    let of_tasks = some_heavy_from(tasks, handlers, n, m, arrivals, 0, n, false);
-    some_heavy_from(tasks, handlers, n, m, arrivals, n, arrivals.len(), of_tasks)
-}
-
-// The same of the rows up to `to`, where `found` says it of those before `from`.
-fn some_heavy_from<'a>(
-    tasks: &'a [u32; 192],
-    handlers: &'a [u32; 32],
-    n: usize,
-    m: usize,
-    arrivals: &[u32],
-    from: usize,
-    to: usize,
-    found: bool,
-) -> bool
-    requires { ⌜ Fitting n m × (length (now arrivals) ≡ n + m) ⌝ }
-    requires { ⌜ (from ≤ to) × (to ≤ n + m) × (found ≡ any (heavy (rowOn (now tasks) (now handlers) n) (now arrivals)) from) ⌝ }
-    ensures { λ r. ⌜ r ≡ any (heavy (rowOn (now (tasks .entry)) (now (handlers .entry)) n) (now (arrivals .entry))) to ⌝ }
-{
-    let mut bad = found;
-    let mut k = from;
-    while k < to {
-        let row = rows::row_at(tasks, handlers, n, m, k);
-        let w = wide(arrivals[k]);
-        bad = bad | (row.cost < w);
-        k += 1;
-    }
-    bad
+    let of_tasks = tasks_heavy(tasks, n, arrivals);
+    let of_handlers = handlers_heavy(handlers, n, m, arrivals);
+    of_tasks | of_handlers
 }
 
 // Arrivals add their work.
@@ -80,7 +85,7 @@ pub fn add_work(owed: &mut [u64; 80], arrivals: &[u32])
 {
     let mut k = 0;
     while k < arrivals.len() {
-        let w = wide(arrivals[k]);
+        let w = table::wide(arrivals[k]);
         let o = owed[k];
         owed[k] = o + w;
         k += 1;

@@ -1,20 +1,22 @@
-// Refusal 6: is a run out of bounds? A function for each clause of the paper, in its order; those of places past the last row and of deadlines are in places and deadlines.
-ghost use mathlib.Core.Bool.{false, not, _&&_, _||_};
+// Refusal 6: is a run out of bounds? Its counts and its clock first, then one pass over its tasks and one over its handlers.
+ghost use mathlib.Core.Bool.{not, _&&_, _||_};
 ghost use mathlib.Core.Path.{_≡_};
-ghost use Prim.Native.Nat.{_+_, _*_, _<_, _≤_};
-ghost use Rattle.demand.specs.Limits.{ticksMost};
-ghost use Rattle.demand.specs.Refusals.{outside};
-ghost use Rattle.scheduler.specs.Bounds.{miscounts, outsideAt, tooFar, tooMuch, tooMuchBehind, names, outOfBounds};
-ghost use Rattle.scheduler.specs.Runs.{runOf, rowOn, Fitting};
+ghost use Prim.Native.Nat.{_≤_};
+ghost use Rattle.demand.specs.Limits.{tasksMost, ticksMost};
+ghost use Rattle.demand.specs.Rows.{rowOf};
+ghost use Rattle.scheduler.specs.Bounds.{miscounts, names, outOfBounds};
+ghost use Rattle.scheduler.specs.Inside.OnePass.{earliestDue, taskOut, taskOutAt, handlerOut, handlerOutAt};
+ghost use Rattle.scheduler.specs.Runs.{runOf, Fitting};
 ghost use Rattle.scheduler.specs.Scans.{at, any};
 ghost use Rattle.scheduler.specs.Tick.{isTask, lateRow};
 use crate::Late;
 use crate::Run;
-use crate::deadlines;
 use crate::places;
 use crate::rows;
 use crate::tick;
-use demand::table::FIGURE_MOST;
+use demand::table;
+use demand::table::Kind;
+use demand::table::Row;
 
 fn miscounts(n: usize, m: usize) -> bool
     ensures { λ r. ⌜ r ≡ miscounts n m ⌝ }
@@ -22,126 +24,91 @@ fn miscounts(n: usize, m: usize) -> bool
     (n == 0) | (Run::TASKS_MOST < n) | (Run::HANDLERS_MOST < m)
 }
 
-fn outside(x: u64) -> bool
-    ensures { λ r. ⌜ r ≡ outside x ⌝ }
+// The earliest deadline that has not passed: the clock where the run is over, else the tick behind it.
+fn earliest_due(over: bool, clock: u64) -> u64
+    requires { ⌜ clock ≤ ticksMost ⌝ }
+    ensures { λ r. ⌜ r ≡ earliestDue over clock ⌝ }
 {
-    (x == 0) | (FIGURE_MOST < x)
+    if over { clock } else { clock + 1 }
 }
 
-// Has some row a figure out of its range?
-fn figures_outside<'a>(tasks: &'a [u32; 192], handlers: &'a [u32; 32], n: usize, m: usize) -> bool
-    requires { ⌜ Fitting n m ⌝ }
-    ensures { λ r. ⌜ r ≡ any (outsideAt (rowOn (now (tasks .entry)) (now (handlers .entry)) n)) (n + m) ⌝ }
+// Does a clause speak against a task of this row, next arrival, deadline and work owed? Its figures first, so that no sum is too large.
+fn task_out(row: Row, next: u64, due: u64, owed: u64, clock: u64, first: u64) -> bool
+    requires { ⌜ clock ≤ ticksMost ⌝ }
+    ensures { λ r. ⌜ r ≡ taskOut clock first (rowOf row) next due owed ⌝ }
 {
-    let of_tasks = figures_outside_from(tasks, handlers, n, m, 0, n, false);
-    figures_outside_from(tasks, handlers, n, m, n, n + m, of_tasks)
-}
-
-// The same of the rows up to `to`, where `found` says it of those before `from`. Asked of tasks and of handlers apart, so that no
-// row need be told which it is.
-fn figures_outside_from<'a>(
-    tasks: &'a [u32; 192],
-    handlers: &'a [u32; 32],
-    n: usize,
-    m: usize,
-    from: usize,
-    to: usize,
-    found: bool,
-) -> bool
-    requires { ⌜ Fitting n m × (from ≤ to) × (to ≤ n + m) × (found ≡ any (outsideAt (rowOn (now tasks) (now handlers) n)) from) ⌝ }
-    ensures { λ r. ⌜ r ≡ any (outsideAt (rowOn (now (tasks .entry)) (now (handlers .entry)) n)) to ⌝ }
-{
-    let mut bad = found;
-    let mut k = from;
-    while k < to {
-        let row = rows::row_at(tasks, handlers, n, m, k);
-        bad = bad | (outside(row.cost) | outside(row.period));
-        k += 1;
+    let figures = table::outside(row.cost) | table::outside(row.period);
+    let own = (row.deadline == 0) | (row.period < row.deadline);
+    if figures | own {
+        return true;
     }
-    bad
+    let next_far = clock + row.period < next;
+    let much = row.cost < owed;
+    let due_far = clock + row.deadline < due;
+    let behind = next < due;
+    let missed = (0 < owed) & (due < first);
+    next_far | much | due_far | behind | missed
 }
 
-// Is a next arrival above clock + period?
-fn next_too_far<'a>(
-    tasks: &'a [u32; 192],
-    handlers: &'a [u32; 32],
-    next: &'a [u64; 80],
-    n: usize,
-    m: usize,
-    clock: u64,
-) -> bool
-    requires { ⌜ Fitting n m × (clock ≤ ticksMost) × (any (outsideAt (rowOn (now tasks) (now handlers) n)) (n + m) ≡ false) ⌝ }
-    ensures { λ r. ⌜ r ≡ any (tooFar clock (rowOn (now (tasks .entry)) (now (handlers .entry)) n) (now (next .entry))) (n + m) ⌝ }
+// The same of a handler.
+fn handler_out(row: Row, next: u64, owed: u64, clock: u64) -> bool
+    requires { ⌜ clock ≤ ticksMost ⌝ }
+    ensures { λ r. ⌜ r ≡ handlerOut clock (rowOf row) next owed ⌝ }
 {
-    let of_tasks = next_too_far_from(tasks, handlers, next, n, m, clock, 0, n, false);
-    next_too_far_from(tasks, handlers, next, n, m, clock, n, n + m, of_tasks)
-}
-
-// The same of the rows up to `to`, where `found` says it of those before `from`.
-fn next_too_far_from<'a>(
-    tasks: &'a [u32; 192],
-    handlers: &'a [u32; 32],
-    next: &'a [u64; 80],
-    n: usize,
-    m: usize,
-    clock: u64,
-    from: usize,
-    to: usize,
-    found: bool,
-) -> bool
-    requires { ⌜ Fitting n m × (clock ≤ ticksMost) × (any (outsideAt (rowOn (now tasks) (now handlers) n)) (n + m) ≡ false) ⌝ }
-    requires { ⌜ (from ≤ to) × (to ≤ n + m) × (found ≡ any (tooFar clock (rowOn (now tasks) (now handlers) n) (now next)) from) ⌝ }
-    ensures { λ r. ⌜ r ≡ any (tooFar clock (rowOn (now (tasks .entry)) (now (handlers .entry)) n) (now (next .entry))) to ⌝ }
-{
-    let mut bad = found;
-    let mut k = from;
-    while k < to {
-        let row = rows::row_at(tasks, handlers, n, m, k);
-        bad = bad | (clock + row.period < next[k]);
-        k += 1;
+    if table::outside(row.cost) | table::outside(row.period) {
+        return true;
     }
-    bad
+    let next_far = clock + row.period < next;
+    let much = clock * row.cost < owed;
+    next_far | much
 }
 
-// Is a task owed more than its cost?
-fn task_too_much<'a>(
+// Does a clause speak against one of n tasks?
+fn tasks_out<'a>(
     tasks: &'a [u32; 192],
-    handlers: &'a [u32; 32],
+    next: &'a [u64; 80],
+    due: &'a [u64; 64],
     owed: &'a [u64; 80],
     n: usize,
-    m: usize,
+    clock: u64,
+    first: u64,
 ) -> bool
-    requires { ⌜ Fitting n m ⌝ }
-    ensures { λ r. ⌜ r ≡ any (tooMuch (rowOn (now (tasks .entry)) (now (handlers .entry)) n) (now (owed .entry))) n ⌝ }
+    requires { ⌜ (n ≤ tasksMost) × (clock ≤ ticksMost) ⌝ }
+    ensures { λ r. ⌜ r ≡ any (taskOutAt clock first (now (tasks .entry)) (now (next .entry)) (now (due .entry)) (now (owed .entry))) n ⌝ }
 {
     let mut bad = false;
     let mut k = 0;
     while k < n {
-        let row = rows::row_at(tasks, handlers, n, m, k);
-        bad = bad | (row.cost < owed[k]);
+        let row = rows::row_of(Kind::Task, tasks, k);
+        let x = next[k];
+        let d = due[k];
+        let o = owed[k];
+        bad = bad | task_out(row, x, d, o, clock, first);
         k += 1;
     }
     bad
 }
 
-// Is a handler owed more than clock times its cost?
-fn handler_too_much<'a>(
-    tasks: &'a [u32; 192],
+// Does a clause speak against one of m handlers behind n tasks?
+fn handlers_out<'a>(
     handlers: &'a [u32; 32],
+    next: &'a [u64; 80],
     owed: &'a [u64; 80],
     n: usize,
     m: usize,
     clock: u64,
 ) -> bool
-    requires { ⌜ Fitting n m × (clock ≤ ticksMost) × (any (outsideAt (rowOn (now tasks) (now handlers) n)) (n + m) ≡ false) ⌝ }
-    ensures { λ r. ⌜ r ≡ any (tooMuchBehind clock (rowOn (now (tasks .entry)) (now (handlers .entry)) n) (now (owed .entry)) n) m ⌝ }
+    requires { ⌜ Fitting n m × (clock ≤ ticksMost) ⌝ }
+    ensures { λ r. ⌜ r ≡ any (handlerOutAt clock (now (handlers .entry)) (now (next .entry)) (now (owed .entry)) n) m ⌝ }
 {
     let mut bad = false;
     let mut i = 0;
     while i < m {
+        let row = rows::row_of(Kind::Handler, handlers, i);
         let k = n + i;
-        let row = rows::row_at(tasks, handlers, n, m, k);
-        bad = bad | (clock * row.cost < owed[k]);
+        let x = next[k];
+        let o = owed[k];
+        bad = bad | handler_out(row, x, o, clock);
         i += 1;
     }
     bad
@@ -179,25 +146,6 @@ fn late_out<'a>(
     }
 }
 
-// The clauses that ask of each row, once the table and the clock are in range.
-fn rows_out<'a>(
-    tasks: &'a [u32; 192],
-    handlers: &'a [u32; 32],
-    next: &'a [u64; 80],
-    owed: &'a [u64; 80],
-    n: usize,
-    m: usize,
-    clock: u64,
-) -> bool
-    requires { ⌜ Fitting n m × (clock ≤ ticksMost) × (any (outsideAt (rowOn (now tasks) (now handlers) n)) (n + m) ≡ false) ⌝ }
-    ensures { λ r. ⌜ r ≡ (any (tooFar clock (rowOn (now (tasks .entry)) (now (handlers .entry)) n) (now (next .entry))) (n + m) || any (tooMuch (rowOn (now (tasks .entry)) (now (handlers .entry)) n) (now (owed .entry))) n || any (tooMuchBehind clock (rowOn (now (tasks .entry)) (now (handlers .entry)) n) (now (owed .entry)) n) m) ⌝ }
-{
-    let a = next_too_far(tasks, handlers, next, n, m, clock);
-    let b = task_too_much(tasks, handlers, owed, n, m);
-    let c = handler_too_much(tasks, handlers, owed, n, m, clock);
-    a | b | c
-}
-
 // Is the run of these fields out of bounds?
 pub fn out_of_bounds<'a>(
     tasks: &'a [u32; 192],
@@ -213,23 +161,13 @@ pub fn out_of_bounds<'a>(
 ) -> bool
     ensures { λ r. ⌜ r ≡ outOfBounds (runOf (now (tasks .entry)) (now (handlers .entry)) n m clock (now (next .entry)) (now (due .entry)) (now (owed .entry)) over late) ⌝ }
 {
-    if miscounts(n, m) {
+    if miscounts(n, m) | (Run::TICKS_MOST < clock) {
         return true;
     }
-    if figures_outside(tasks, handlers, n, m) {
-        return true;
-    }
-    if deadlines::deadlines_outside(tasks, handlers, n, m) {
-        return true;
-    }
-    if places::places_used(tasks, handlers, next, due, owed, n, m) {
-        return true;
-    }
-    if Run::TICKS_MOST < clock {
-        return true;
-    }
-    let rows = rows_out(tasks, handlers, next, owed, n, m, clock);
-    let deadlines = deadlines::deadlines_out(tasks, handlers, next, due, owed, n, m, clock, over);
+    let first = earliest_due(over, clock);
+    let past_the_rows = places::places_used(tasks, handlers, next, due, owed, n, m);
+    let of_tasks = tasks_out(tasks, next, due, owed, n, clock, first);
+    let of_handlers = handlers_out(handlers, next, owed, n, m, clock);
     let late = late_out(due, owed, n, clock, over, late);
-    rows | deadlines | late
+    past_the_rows | of_tasks | of_handlers | late
 }

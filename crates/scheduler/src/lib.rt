@@ -2,7 +2,6 @@
 mod arrivals;
 mod begin;
 mod bounds;
-mod deadlines;
 mod places;
 mod refusal;
 mod rows;

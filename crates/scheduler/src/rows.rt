@@ -9,7 +9,7 @@ use demand::table::Kind;
 use demand::table::Row;
 
 // The row at place i of a flat list.
-fn row_of(kind: Kind, s: &[u32], i: usize) -> Row
+pub fn row_of(kind: Kind, s: &[u32], i: usize) -> Row
     requires { ⌜ (i < 64) × (width kind * i + width kind ≤ length (now s)) ⌝ }
     ensures { λ r. ⌜ rowOf r ≡ rowAt (rowsOf kind (now (s .entry))) i ⌝ }
 {

@@ -1,19 +1,19 @@
--- Refusal 6 clause by clause: what the code tests one after the other, and what a run in bounds is.
+-- Refusal 6 clause by clause: what a run in bounds is.
 --   Clauses r   no clause of refusal 6 applies
-use mathlib.Core.Bool.{Bool, true, false, _||_}
+use mathlib.Core.Bool.{Bool, false, _||_}
 use mathlib.Core.Logic.{_⊎_, inl, inr}
-use mathlib.Core.Path.{_≡_, refl}
+use mathlib.Core.Path.{_≡_}
 use native.Mathlib.Nat.{mul-le-mul}
 use native.Mathlib.Omega.{arith}
-use borrow.Author.Tests.{ltb-false, leb-false, le-ltb, lt-ltb, le-leb, lt-leb}
+use borrow.Author.Tests.{ltb-false, leb-false, lt-ltb}
 use Prim.Native.Nat.{ℕ, _+_, _-_, _*_, _≤_, _<_}
-use lib.Dec.{ltb, leb, eqb}
+use lib.Dec.{ltb, eqb}
 use lib.ListN.{getD}
 use Rattle.demand.proofs.Divide.{le-or-lt}
 use Rattle.demand.specs.Limits.{tasksMost, handlersMost, ticksMost}
 use Rattle.demand.specs.Refusals.{FairRow}
 use Rattle.demand.specs.Rows.{Sound}
-use Rattle.scheduler.specs.Bounds.{miscounts, outsideAt, deadlineOutsideAt, tableRefused, placesUsed, clockPast, tooFar, nextTooFar, tooMuch, taskTooMuch, tooMuchBehind, handlerTooMuch, dueFar, dueTooFar, dueBehind, dueAfterNext, earliestDue, passed, missed, deadlineMissed, lateWrong, lateNamed, outOfBounds, InBounds}
+use Rattle.scheduler.specs.Bounds.{miscounts, outsideAt, deadlineOutsideAt, tableRefused, placesUsed, clockPast, tooFar, nextTooFar, tooMuch, taskTooMuch, tooMuchBehind, handlerTooMuch, dueFar, dueTooFar, dueBehind, dueAfterNext, missed, deadlineMissed, lateWrong, lateNamed, outOfBounds, InBounds}
 use Rattle.scheduler.specs.Runs.{rowIn, rowCount, Fitting}
 use Rattle.scheduler.specs.Scans.{at, any}
 use Rattle.scheduler.specs.declared.Run.{Run}
@@ -84,61 +84,6 @@ module _ (r : Run) where
   unfolding outOfBounds
   in-bounds c =
       simp (c .counts, c .figures, c .own, c .places, c .clock, c .next, c .tasks, c .handlers, c .due, c .ordered, c .deadlines, c .late, c .named)
-
--- Passed is before the earliest deadline that has not.
-pub passed-before : (over : Bool) (clock due : ℕ) → ltb due (earliestDue over clock) ≡ passed over clock due
-passed-before true clock due = refl
-passed-before false clock due = go (le-or-lt due clock)
-  where
-    go : (due ≤ clock) ⊎ (clock < due) → ltb due (clock + 1) ≡ leb due clock
-    go (inl h) = rw (lt-ltb due (clock + 1) (omega arith), le-leb due clock h)
-    go (inr h) = rw (le-ltb due (clock + 1) (omega arith), lt-leb due clock h)
-
--- ---- the code's answers, one after the other
-
-or-last : (a b c : Bool) → (a || (b || c)) ≡ ((a || b) || c)
-or-last true b c = refl
-or-last false b c = refl
-
--- The clauses in the groups in which the code asks them.
-grouped : (x d e f g h : Bool) → ((x || (d || e || f)) || (g || h)) ≡ (x || d || e || f || g || h)
-grouped true d e f g h = refl
-grouped false d e f g h = or-last (d || e || f) g h
-
-module _ (r : Run) where
-  pub out-counts : miscounts (r .«task_count») (r .«handler_count») ≡ true → true ≡ outOfBounds r
-  unfolding outOfBounds
-  out-counts a = simp a
-
-  module _ (counts : miscounts (r .«task_count») (r .«handler_count») ≡ false) where
-    pub out-figures : any (outsideAt (rowIn r)) (rowCount r) ≡ true → true ≡ outOfBounds r
-    unfolding outOfBounds
-    out-figures a = simp (counts, a)
-
-    module _ (figures : any (outsideAt (rowIn r)) (rowCount r) ≡ false) where
-      pub out-own : any (deadlineOutsideAt (rowIn r)) (r .«task_count») ≡ true → true ≡ outOfBounds r
-      unfolding outOfBounds
-      out-own a = simp (counts, figures, a)
-
-      module _ (own : any (deadlineOutsideAt (rowIn r)) (r .«task_count») ≡ false) where
-        pub out-places : placesUsed r ≡ true → true ≡ outOfBounds r
-        unfolding outOfBounds
-        out-places a = simp (counts, figures, own, a)
-
-        module _ (places : placesUsed r ≡ false) where
-          pub out-clock : ticksMost < r .clock → true ≡ outOfBounds r
-          unfolding outOfBounds
-          out-clock a = simp (counts, figures, own, places, lt-ltb ticksMost (r .clock) a)
-
-          pub out-rest : r .clock ≤ ticksMost → (rows deadlines late : Bool)
-              → rows ≡ (nextTooFar r || taskTooMuch r || handlerTooMuch r)
-              → deadlines ≡ (dueTooFar r || dueAfterNext r || deadlineMissed r)
-              → late ≡ (lateWrong r || lateNamed r)
-              → (rows || deadlines || late) ≡ outOfBounds r
-          unfolding outOfBounds
-          out-rest a rows deadlines late er ed el =
-              simp (counts, figures, own, places, le-ltb ticksMost (r .clock) a)
-              (rw (er, ed, el) (grouped (nextTooFar r || taskTooMuch r || handlerTooMuch r) (dueTooFar r) (dueAfterNext r) (deadlineMissed r) (lateWrong r) (lateNamed r)))
 
 -- ---- what a run in bounds is, place by place
 

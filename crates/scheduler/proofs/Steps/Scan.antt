@@ -3,7 +3,7 @@ use mathlib.Core.Bool.{Bool, true, false, not, _||_, false≢true}
 use mathlib.Core.List.{List}
 use mathlib.Core.Logic.{⊎-elim}
 use mathlib.Core.Path.{_≡_, refl, sym, ap, _∙_}
-use native.Mathlib.Nat.{eq-or-lt-of-le, le-of-suc-le-suc, not-suc-le-zero}
+use native.Mathlib.Nat.{add-zero, add-suc, eq-or-lt-of-le, le-of-suc-le-suc, not-suc-le-zero}
 use native.Mathlib.Numerals.{add-one}
 use native.Mathlib.Omega.{arith}
 use Prim.Native.Nat.{ℕ, zero, suc, _+_, _≤_, _<_}
@@ -26,6 +26,17 @@ neither false b e = (refl, e)
 pub or-false : (b : Bool) → b ≡ (b || false)
 or-false true = refl
 or-false false = refl
+
+or-last : (a b c : Bool) → ((a || b) || c) ≡ (a || (b || c))
+or-last true b c = refl
+or-last false b c = refl
+
+-- Two tests that fail together are the same.
+pub same-test : (a b : Bool) → (a ≡ false → b ≡ false) → (b ≡ false → a ≡ false) → a ≡ b
+same-test true true f g = refl
+same-test true false f g = g refl
+same-test false true f g = sym (f refl)
+same-test false false f g = refl
 
 or-swap : (a b c u : Bool) → (a || (b || c)) ≡ u → ((a || b) || c) ≡ u
 or-swap true b c u e = e
@@ -60,6 +71,18 @@ module _ (p : ℕ → Bool) where
   unfolding any
   any-false zero h = refl
   any-false (suc n) h = rw (any-false n (λ k l. h k (omega arith)), h n (omega arith))
+
+-- Tests that agree on every place agree on all.
+pub any-same : (p q : ℕ → Bool) (n : ℕ) → ((k : ℕ) → k < n → p k ≡ q k) → any p n ≡ any q n
+unfolding any
+any-same p q zero h = refl
+any-same p q (suc n) h = rw (any-same p q n (λ k l. h k (omega arith)), h n (omega arith))
+
+-- Of the first n places, or of the m behind them.
+pub any-split : (p : ℕ → Bool) (n m : ℕ) → any p (n + m) ≡ (any p n || any (λ i. p (n + i)) m)
+unfolding any
+any-split p n zero = rw add-zero (or-false (any p n))
+any-split p n (suc m) = rw (add-suc, any-split p n m) (or-last (any p n) (any (λ i. p (n + i)) m) (p (n + m)))
 
 -- ---- firstOf
 

@@ -1,18 +1,18 @@
-use mathlib.Core.Path.{sym}
-use native.Mathlib.Omega.{arith}
-use Rattle.scheduler.proofs.Steps.Scan.{any-zero}
 use borrow.Author.Needs.{needs}
+use Rattle.scheduler.proofs.Steps.OnePass.{heavy-by-kind}
 use Rattle.scheduler.proofs.arrivals.some_heavy.Statement.{statement}
 use Rattle.scheduler.proofs.arrivals.some_heavy.Tie as tie
 
-some-heavy-from-requires : tie.Need-some-heavy-from-requires
-some-heavy-from-requires c κs = (c .before .pre, (omega arith, omega arith, sym (any-zero _)))
+tasks-heavy-requires : tie.Need-tasks-heavy-requires
+tasks-heavy-requires c κs = search needs
 
-some-heavy-from-requires-2 : tie.Need-some-heavy-from-requires-2
-some-heavy-from-requires-2 c κs = search needs
+handlers-heavy-requires : tie.Need-handlers-heavy-requires
+handlers-heavy-requires c κs = search needs
 
 returns : tie.Need-returns
-returns c = search needs
+returns c =
+    let x = c .before .before .before .args in
+    heavy-by-kind (x .tasks .now) (x .handlers .now) (x .arrivals .now) (x .n) (x .m) _ _ (c .before .before .before .pre .1) (c .before .tasks-heavy .ensures) (c .handlers-heavy .ensures)
 
 pub some-heavy-spec : {M : Type 1} → statement M
-some-heavy-spec = tie.close (tie.spec some-heavy-from-requires some-heavy-from-requires-2 returns)
+some-heavy-spec = tie.close (tie.spec tasks-heavy-requires handlers-heavy-requires returns)

@@ -1,6 +1,6 @@
 use borrow.Author.Needs.{needs}
-use Rattle.scheduler.proofs.deadlines.earliest_due.Statement.{statement}
-use Rattle.scheduler.proofs.deadlines.earliest_due.Tie as tie
+use Rattle.scheduler.proofs.bounds.earliest_due.Statement.{statement}
+use Rattle.scheduler.proofs.bounds.earliest_due.Tie as tie
 
 add-result : tie.Need-add-result
 add-result c = search needs

@@ -1,25 +1,24 @@
-use mathlib.Core.Path.{_≡_, ap}
+use mathlib.Core.Path.{_≡_, sym, ap}
 use borrow.Author.Needs.{needs}
 use Prim.Native.Nat.{_≤_, _-_}
 use Rattle.demand.specs.Rows.{Row}
-use Rattle.scheduler.specs.Runs.{rowOn}
+use Rattle.scheduler.specs.Inside.OnePass.{heavyTask}
 use Rattle.scheduler.specs.Scans.{any}
-use Rattle.scheduler.specs.Steps.{heavy}
-use Rattle.scheduler.proofs.Steps.Scan.{at-end, any-turn}
-use Rattle.scheduler.proofs.arrivals.some_heavy_from.Statement.{statement}
-use Rattle.scheduler.proofs.arrivals.some_heavy_from.Tie as tie
+use Rattle.scheduler.proofs.Steps.Scan.{at-end, any-zero, any-turn}
+use Rattle.scheduler.proofs.arrivals.tasks_heavy.Statement.{statement}
+use Rattle.scheduler.proofs.arrivals.tasks_heavy.Tie as tie
 
 abbrev Inv-loop : tie.InvT-loop
-Inv-loop tasks handlers n m arrivals from to found bad₀ k₀ bad k = (k ≤ to) × (bad ≡ any (heavy (rowOn tasks handlers n) arrivals) k)
+Inv-loop tasks n arrivals bad₀ k₀ bad k = (k ≤ n) × (bad ≡ any (heavyTask tasks arrivals) k)
 
 abbrev μ-loop : tie.MeasureT-loop
-μ-loop tasks handlers n m arrivals from to found bad₀ k₀ bad k = to - k
+μ-loop tasks n arrivals bad₀ k₀ bad k = n - k
 
 loop-holds : tie.Need-loop-holds Inv-loop μ-loop
-loop-holds c = (c .before .pre .1 .0, c .before .pre .1 .2)
+loop-holds c = (search needs, sym (any-zero _))
 
-row-at-requires : tie.Need-row-at-requires Inv-loop μ-loop
-row-at-requires c κs = search needs
+row-of-requires : tie.Need-row-of-requires Inv-loop μ-loop
+row-of-requires c κs = search needs
 
 mul-wide : tie.Need-mul-wide Inv-loop μ-loop
 mul-wide c = search needs
@@ -37,19 +36,19 @@ loop-less : tie.Need-loop-less Inv-loop μ-loop
 loop-less c = search needs
 
 loop-again : tie.Need-loop-again Inv-loop μ-loop
-loop-again c = (search needs, any-turn _ _ _ _ (c .before .before .before .before .before .loop .inv .1) (simp (c .before .wide .ensures .0, ap (λ (r : Row). r .cost) (c .before .before .before .row-at .ensures))))
+loop-again c = (search needs, any-turn _ _ _ _ (c .before .before .before .before .before .before .loop .inv .1) (simp (c .before .wide .ensures .0, ap (λ (r : Row). r .cost) (c .before .before .before .row-of .ensures))))
 
 returns : tie.Need-returns Inv-loop μ-loop
 returns c = at-end (any _) _ _ (c .before .loop .inv .0) (c .loop-test .left) (c .before .loop .inv .1)
 
-pub some-heavy-from-spec : {M : Type 1} → statement M
-some-heavy-from-spec =
+pub tasks-heavy-spec : {M : Type 1} → statement M
+tasks-heavy-spec =
     tie.close
     (tie.spec
     Inv-loop
     μ-loop
     loop-holds
-    row-at-requires
+    row-of-requires
     mul-wide
     shared-slice-read-wide
     wide-requires

@@ -1,0 +1,3 @@
+-- What no promise cites: how the code goes about it.
+-- refusal 6 in one pass over the tasks and one over the handlers
+pub mod OnePass
