@@ -1,10 +1,10 @@
 // Reads a table from standard input, and prints its sheet: two lines on standard output, and on a refusal its number and
 // English line on standard error.
-ghost use Rattle.sheet.specs.Text.{Fits};
+ghost use Rattle.text.specs.Text.{Fits};
 use libc::STDERR_FILENO;
 use libc::STDIN_FILENO;
 use libc::STDOUT_FILENO;
-use sheet::text::Text;
+use text::Text;
 
 // Writes a text.
 fn print(fd: i32, text: Text)
@@ -20,7 +20,7 @@ fn explain(number: u32) {
     io::write_all(STDERR_FILENO, b"refused ");
     io::print_decimal(STDERR_FILENO, number as u64);
     io::write_all(STDERR_FILENO, b": ");
-    print(STDERR_FILENO, sheet::english::line(number));
+    print(STDERR_FILENO, text::english::line(number));
     io::write_all(STDERR_FILENO, b"\n");
 }
 

@@ -1,11 +1,3 @@
-pub mod Digits
-pub mod Standing
-pub mod Room
-pub mod Builds
-pub mod Texts
-pub mod Accepts
-pub mod Writes
-pub mod Prints
-pub mod Phrases
-pub mod Sheets
-pub mod CaseNine
+pub mod Lines
+pub mod Whole
+pub mod Example

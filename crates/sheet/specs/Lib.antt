@@ -1,11 +1,7 @@
-pub mod Ascii
-pub mod Numbers
-pub mod Layout
-pub mod Table
-pub mod Steps
-pub mod Building
-pub mod Text
+-- Contents.
+-- the two lines of an answer
 pub mod Printed
-pub mod English
+-- from the bytes of a file to the bytes of its sheet
 pub mod Whole
+-- case 9 in full
 pub mod Example

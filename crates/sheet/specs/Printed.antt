@@ -4,8 +4,8 @@
 --   printed g      == the two lines of the figures g
 use mathlib.Core.List.{List, _++_}
 use Prim.Native.Nat.{ℕ}
-use Rattle.sheet.specs.Ascii.{ascii, crlf}
-use Rattle.sheet.specs.Numbers.{field}
+use Rattle.text.specs.Ascii.{ascii, crlf}
+use Rattle.text.specs.Numbers.{field}
 use Rattle.verdict.specs.Promise.{Figures, Word}
 use Rattle.verdict.specs.Promise.Word.{fits, misses, refused}
 

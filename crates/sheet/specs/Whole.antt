@@ -15,12 +15,12 @@ use Prim.Native.Nat.{ℕ}
 use lib.Dec.{eqb}
 use Rattle.demand.specs.Refusals.{tableRefusal}
 use Rattle.demand.specs.Tests.{pick}
-use Rattle.sheet.specs.Layout.{Entry, FileSays, SaysNothing}
+use Rattle.layout.specs.File.{Entry, FileSays, SaysNothing}
 use Rattle.sheet.specs.Printed.{printed}
-use Rattle.sheet.specs.Table.{numbersOf, misplaced}
-use Rattle.sheet.specs.Text.{textOf}
+use Rattle.layout.specs.Table.{numbersOf, misplaced}
+use Rattle.text.specs.Text.{textOf}
 use Rattle.sheet.specs.declared.Output.{Output}
-use Rattle.sheet.specs.declared.layout.Kind.the-variants.{Task, Handler}
+use Rattle.demand.specs.declared.table.Kind.the-variants.{Task, Handler}
 use Rattle.verdict.specs.Promise.{Figures, Says}
 use Rattle.verdict.specs.Promise.Word.{refused}
 

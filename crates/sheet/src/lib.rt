@@ -1,14 +1,10 @@
 // The sheet of a file: a table in, two printed lines out.
-pub mod english;
-mod layout;
-mod numerals;
 pub mod printed;
-pub mod reader;
-pub mod text;
 
 ghost use mathlib.Core.Path.{_≡_};
 ghost use Rattle.verdict.specs.Promise.{figures};
 ghost use Rattle.sheet.specs.Whole.{TableFigures, outputOf, SheetSays};
+use layout::reader;
 use text::Text;
 use verdict::Answer;
 

@@ -2,9 +2,8 @@
 ghost use mathlib.Core.Path.{_≡_};
 ghost use Rattle.verdict.specs.Promise.{figures};
 ghost use Rattle.sheet.specs.Printed.{lines, printed};
-ghost use Rattle.sheet.specs.Text.{blankText, putsOf, textOf};
-use crate::text;
-use crate::text::Text;
+ghost use Rattle.text.specs.Text.{blankText, putsOf, textOf};
+use text::Text;
 use verdict::Answer;
 
 // The header, then the word and the five figures.

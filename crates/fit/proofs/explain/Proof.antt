@@ -1,5 +1,5 @@
-use Rattle.sheet.specs.English.{english}
-use Rattle.sheet.proofs.Writes.{text-fits}
+use Rattle.text.specs.English.{english}
+use Rattle.text.proofs.Writes.{text-fits}
 use borrow.Author.Needs.{needs}
 use Rattle.fit.proofs.explain.Statement.{statement}
 use Rattle.fit.proofs.explain.Tie as tie

@@ -1,4 +1,4 @@
-use Rattle.sheet.proofs.Sheets.{sheet-fits}
+use Rattle.sheet.proofs.Whole.{sheet-fits}
 use borrow.Author.Needs.{needs}
 use Rattle.fit.proofs.main.Statement.{statement}
 use Rattle.fit.proofs.main.Tie as tie

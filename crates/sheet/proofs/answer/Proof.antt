@@ -1,6 +1,6 @@
 use mathlib.Core.Path.{refl}
 use borrow.Author.Tests.{not-true, not-false}
-use Rattle.sheet.proofs.Sheets.{placed-answer, misplaced-thirteen, misplaced-own}
+use Rattle.sheet.proofs.Whole.{placed-answer, misplaced-thirteen, misplaced-own}
 use borrow.Author.Needs.{needs}
 use Rattle.sheet.proofs.answer.Statement.{statement}
 use Rattle.sheet.proofs.answer.Tie as tie

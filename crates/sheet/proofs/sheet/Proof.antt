@@ -1,5 +1,6 @@
 use borrow.Author.Tests.{not-true, not-false}
-use Rattle.sheet.proofs.Sheets.{read-counted, broken-sheet, table-sheet}
+use Rattle.sheet.proofs.Whole.{broken-sheet, table-sheet}
+use Rattle.layout.proofs.Table.{read-counted}
 use borrow.Author.Needs.{needs}
 use Rattle.sheet.proofs.sheet.Statement.{statement}
 use Rattle.sheet.proofs.sheet.Tie as tie

@@ -1,4 +1,4 @@
-use Rattle.sheet.proofs.Prints.{chained}
+use Rattle.sheet.proofs.Lines.{chained}
 use borrow.Author.Needs.{needs}
 use Rattle.sheet.proofs.printed.lines.Statement.{statement}
 use Rattle.sheet.proofs.printed.lines.Tie as tie

@@ -1,6 +1,6 @@
 use Rattle.verdict.specs.Promise.{figures}
 use Rattle.verdict.specs.declared.Answer.the-variants as answer
-use Rattle.sheet.proofs.Prints.{lines-printed}
+use Rattle.sheet.proofs.Lines.{lines-printed}
 use borrow.Author.Needs.{needs}
 use Rattle.sheet.proofs.printed.of_answer.Statement.{statement}
 use Rattle.sheet.proofs.printed.of_answer.Tie as tie

@@ -1,0 +1,148 @@
+-- The reader accepts exactly the texts of the layout, and reads what they say: a file says one list of rows at most.
+use mathlib.Core.Bool.{Bool, true, false}
+use mathlib.Core.List.{List, [], _∷_, _++_}
+use mathlib.Core.Logic.{_⊎_, inl, inr}
+use mathlib.Core.Path.{_≡_, refl, sym, ap, subst, _∙_}
+use native.Mathlib.Omega.{arith}
+use Prim.Native.Nat.{ℕ, _+_, _-_, _*_, _≤_}
+use borrow.Author.Tests.{ltb-false, le-ltb}
+use lib.Dec.{ltb}
+use lib.ListN.{length, take, length-append}
+use lib.Seq.{take-append-seam}
+use Rattle.demand.specs.Tests.{pick}
+use Rattle.text.specs.Ascii.{crlf}
+use Rattle.layout.specs.Inside.Building.{Outcome, none, some, Run, runFrom, run, ended, outcome}
+use Rattle.layout.specs.File.{Entry, text, AllLawful, FileSays, OneTable}
+use Rattle.layout.specs.Inside.Steps.{isStart, columnsOf}
+use Rattle.layout.specs.Table.{tableOf, ReadSays, OneReading}
+use Rattle.layout.specs.declared.steps.Columns.{Columns}
+use Rattle.layout.specs.declared.steps.Columns.the-variants.{Three, Four}
+use Rattle.layout.specs.declared.steps.State.{State}
+use Rattle.layout.specs.declared.steps.State.the-variants.{Broken, Head, HeadCr, Start, Name, CostFirst, Cost, PeriodFirst, Period, DeadlineFirst, Deadline, RowCr}
+use Rattle.layout.specs.declared.reader.Table.{Table}
+use Rattle.layout.proofs.Inside.Builds.{tableFor, run-append}
+use Rattle.text.proofs.Tests.{by}
+use Rattle.layout.proofs.Inside.Room.{text-least}
+use Rattle.layout.proofs.Inside.Standing.{Holds, holds}
+use Rattle.layout.proofs.Inside.Texts.{at, run-text}
+
+-- ---- what is accepted is a text
+
+pub never : (P : Type 0) (fs : List Entry) → none ≡ some fs → P
+never P fs e =
+    let z : _≡_ {A = ℕ} 0 1 = cc in
+    let f : ⊥ = omega arith in
+    absurd f
+
+clash : (P : Type 0) → false ≡ true → P
+clash P e =
+    let z : _≡_ {A = ℕ} 0 1 = cc in
+    let f : ⊥ = omega arith in
+    absurd f
+
+-- At the start of a line all that was read is rows and line ends.
+holds-start : (cols : Columns) (st : State) (es : List Entry) (l : List ℕ) → isStart st ≡ true → Holds cols st es l → AllLawful cols es × (text cols es ++ crlf ≡ l)
+unfolding Holds
+holds-start cols Start es l t h = h
+holds-start cols Broken es l t h = clash _ t
+holds-start cols (Head k) es l t h = clash _ t
+holds-start cols HeadCr es l t h = clash _ t
+holds-start cols (Name kind k) es l t h = clash _ t
+holds-start cols (CostFirst kind) es l t h = clash _ t
+holds-start cols (Cost kind v) es l t h = clash _ t
+holds-start cols (PeriodFirst kind c) es l t h = clash _ t
+holds-start cols (Period kind c v) es l t h = clash _ t
+holds-start cols (DeadlineFirst kind c p) es l t h = clash _ t
+holds-start cols (Deadline kind c p v) es l t h = clash _ t
+holds-start cols (RowCr kind c p last) es l t h = clash _ t
+
+-- Equal ends come off.
+without-end : (xs ys zs : List ℕ) → xs ++ zs ≡ ys ++ zs → xs ≡ ys
+without-end xs ys zs e =
+    let same : length xs ≡ length ys = omega (arith, ap length e, length-append xs zs, length-append ys zs) in
+    sym (take-append-seam xs zs) ∙ ap (take (length xs)) e ∙ ap (λ (n : ℕ). take n (ys ++ zs)) same ∙ take-append-seam ys zs
+
+abbrev Ends : Columns → List ℕ → List Entry → Type 0
+Ends cols l fs = AllLawful cols fs × ((l ≡ text cols fs) ⊎ (l ≡ text cols fs ++ crlf))
+
+module _ (cols : Columns) (bs : List ℕ) (fs : List Entry) where
+  -- The last line lacked its CRLF.
+  ends-short : isStart (runFrom cols (run cols bs) crlf .st) ≡ true → some (runFrom cols (run cols bs) crlf .rows) ≡ some fs → Ends cols bs fs
+  ends-short t e =
+      let w = runFrom cols (run cols bs) crlf in
+      let q : w .rows ≡ fs = cc in
+      let whole : Holds cols (w .st) (w .rows) (bs ++ crlf) =
+      subst (λ (x : Run). Holds cols (x .st) (x .rows) (bs ++ crlf)) (run-append cols (record { st = Head 0; rows = [] }) bs crlf) (holds cols (bs ++ crlf)) in
+      let h = holds-start cols (w .st) (w .rows) (bs ++ crlf) t whole in
+      (subst (AllLawful cols) q (h .0), inl (sym (without-end (text cols (w .rows)) bs crlf (h .1)) ∙ ap (text cols) q))
+
+  ends-full : isStart (run cols bs .st) ≡ true → some (run cols bs .rows) ≡ some fs → Ends cols bs fs
+  ends-full t e =
+      let w = run cols bs in
+      let q : w .rows ≡ fs = cc in
+      let h = holds-start cols (w .st) (w .rows) bs t (holds cols bs) in
+      (subst (AllLawful cols) q (h .0), inr (sym (h .1) ∙ ap (λ (x : List Entry). text cols x ++ crlf) q))
+
+  ends : ended cols (run cols bs) ≡ some fs → Ends cols bs fs
+  ends e =
+      by (λ t. isStart (runFrom cols (run cols bs) crlf .st) ≡ t → pick t (some (runFrom cols (run cols bs) crlf .rows)) (pick (isStart (run cols bs .st)) (some (run cols bs .rows)) none) ≡ some fs → Ends cols bs fs)
+      (isStart (runFrom cols (run cols bs) crlf .st))
+      (λ _. λ t. λ x. ends-short t x)
+      (λ _. λ _. λ y.
+      by (λ t. isStart (run cols bs .st) ≡ t → pick t (some (run cols bs .rows)) none ≡ some fs → Ends cols bs fs) (isStart (run cols bs .st))
+      (λ _. λ t. λ x. ends-full t x)
+      (λ _. λ t. λ x. never _ fs x)
+      refl y)
+      refl e
+
+pub sound : (bs : List ℕ) (fs : List Entry) → outcome bs ≡ some fs → FileSays bs fs
+sound bs fs e =
+    let cols = columnsOf bs in
+    by (λ t. ltb 4096 (length bs) ≡ t → pick t none (ended cols (run cols bs)) ≡ some fs → FileSays bs fs) (ltb 4096 (length bs))
+    (λ _. λ t. λ x. never _ fs x)
+    (λ _. λ t. λ x.
+    let w : Ends cols bs fs = ends cols bs fs x in
+    record { cols = cols; small = ltb-false _ _ t; lawful = w .0; written = w .1 })
+    refl e
+
+-- ---- a text is accepted
+
+accepted : (cols : Columns) (bs : List ℕ) (es : List Entry) → AllLawful cols es → (bs ≡ text cols es) ⊎ (bs ≡ text cols es ++ crlf) → ended cols (run cols bs) ≡ some es
+accepted cols bs es s (inl e) =
+    ap (λ (x : List ℕ). ended cols (run cols x)) e
+    ∙ ap (λ (w : Run). pick (isStart (w .st)) (some (w .rows)) (pick (isStart (run cols (text cols es) .st)) (some (run cols (text cols es) .rows)) none)) (run-text cols es s)
+accepted cols bs es s (inr e) =
+    ap (λ (x : List ℕ). ended cols (run cols x)) e
+    ∙ ap (ended cols) (run-append cols (at (Head 0) []) (text cols es) crlf ∙ run-text cols es s)
+
+-- The 17th byte of a text tells its columns.
+told : (cols : Columns) (bs : List ℕ) (es : List Entry) → (bs ≡ text cols es) ⊎ (bs ≡ text cols es ++ crlf) → columnsOf bs ≡ cols
+told Three bs [] (inl e) = ap columnsOf e
+told Three bs (x ∷ es) (inl e) = ap columnsOf e
+told Three bs [] (inr e) = ap columnsOf e
+told Three bs (x ∷ es) (inr e) = ap columnsOf e
+told Four bs es (inl e) = ap columnsOf e
+told Four bs es (inr e) = ap columnsOf e
+
+pub complete : (bs : List ℕ) (es : List Entry) → FileSays bs es → outcome bs ≡ some es
+complete bs es s =
+    ap (λ (t : Bool). pick t none (ended (columnsOf bs) (run (columnsOf bs) bs))) (le-ltb 4096 (length bs) (s .small))
+    ∙ ap (λ (x : Columns). ended x (run x bs)) (told (s .cols) bs es (s .written))
+    ∙ accepted (s .cols) bs es (s .lawful) (s .written)
+
+-- ---- so a file says one list of rows at most
+
+pub says-unique : OneTable
+says-unique bs es fs s t =
+    let a : outcome bs ≡ some es = complete bs es s in
+    let b : outcome bs ≡ some fs = complete bs fs t in
+    cc
+
+-- ---- and a file says 408 rows at most
+
+written-least : (bs : List ℕ) (cols : Columns) (es : List Entry) → (bs ≡ text cols es) ⊎ (bs ≡ text cols es ++ crlf) → 16 + length es * 10 ≤ length bs
+written-least bs cols es (inl e) = omega (arith, ap length e, text-least cols es)
+written-least bs cols es (inr e) = omega (arith, ap length e, length-append (text cols es) crlf, text-least cols es)
+
+pub says-most : (bs : List ℕ) (es : List Entry) → FileSays bs es → length es ≤ 408
+says-most bs es s = omega (arith, written-least bs (s .cols) es (s .written), s .small)

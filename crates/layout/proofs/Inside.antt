@@ -1,0 +1,4 @@
+pub mod Standing
+pub mod Room
+pub mod Builds
+pub mod Texts

@@ -1,0 +1,119 @@
+-- 4,096 bytes say 408 rows at most, so the table has room for every row that is read.
+use mathlib.Core.List.{List, [], _∷_, _++_, append-nil, append-assoc}
+use mathlib.Core.Path.{ap}
+use native.Mathlib.Omega.{arith}
+use Prim.Native.Nat.{ℕ, _+_, _-_, _*_, _<_, _≤_}
+use lib.Dec.{eqb}
+use lib.ListN.{length, length-append}
+use Rattle.demand.specs.Tests.{pick}
+use Rattle.text.specs.Ascii.{crlf}
+use Rattle.layout.specs.Inside.Building.{Run, done, added, next, runFrom, run, Room}
+use Rattle.layout.specs.File.{Entry, entry, headerOf, nameOf, lastText, entryText, body, text}
+use Rattle.text.specs.Numbers.{field}
+use Rattle.layout.specs.Table.{rowOf, numbersOf, tableOf}
+use Rattle.layout.specs.declared.steps.Columns.{Columns}
+use Rattle.layout.specs.declared.steps.Columns.the-variants.{Three, Four}
+use Rattle.demand.specs.declared.table.Kind.{Kind}
+use Rattle.demand.specs.declared.table.Kind.the-variants.{Task, Handler}
+use Rattle.layout.specs.declared.steps.Last.{Last}
+use Rattle.layout.specs.declared.steps.State.{State}
+use Rattle.layout.specs.declared.steps.State.the-variants.{Broken, Head, HeadCr, Start, Name, CostFirst, Cost, PeriodFirst, Period, DeadlineFirst, Deadline, RowCr}
+use Rattle.text.proofs.Numbers.{decimal-least}
+use Rattle.text.proofs.Tests.{by}
+use Rattle.layout.proofs.Inside.Standing.{Holds, step-keeps, holds-first}
+
+-- ---- a row's line has 10 bytes at least
+
+header-least : (cols : Columns) → 16 ≤ length (headerOf cols)
+header-least Three = omega arith
+header-least Four = omega arith
+
+name-least : (kind : Kind) → 4 ≤ length (nameOf kind)
+name-least Task = omega arith
+name-least Handler = omega arith
+
+entry-least : (e : Entry) → 8 ≤ length (entryText e)
+entry-least (entry kind c p last) =
+    omega (
+      arith,
+      length-append (nameOf kind) (field c ++ (field p ++ lastText last)),
+      length-append (field c) (field p ++ lastText last),
+      length-append (field p) (lastText last),
+      name-least kind,
+      decimal-least c,
+      decimal-least p,
+    )
+
+body-least : (es : List Entry) → length es * 10 ≤ length (body es)
+body-least [] = omega arith
+body-least (e ∷ es) = omega (arith, length-append (entryText e) (body es), entry-least e, body-least es)
+
+pub text-least : (cols : Columns) (es : List Entry) → 16 + length es * 10 ≤ length (text cols es)
+text-least cols es = omega (arith, length-append (headerOf cols) (body es), header-least cols, body-least es)
+
+-- ---- and so while it is read: a row read whole has its own line end too
+
+abbrev Roomy : List Entry → List ℕ → Type 0
+Roomy es l = length es * 10 ≤ length l - 18
+
+row-least : (cols : Columns) (kind : Kind) (c p : ℕ) (last : Last) (es : List Entry) (l : List ℕ) → Holds cols (RowCr kind c p last) es l → (length es + 1) * 10 ≤ length l + 1 - 18
+unfolding Holds
+row-least cols kind c p last es l h =
+    omega (
+      arith,
+      ap length (h .2),
+      length-append (text cols es) (crlf ++ (entryText (entry kind c p last) ++ (13 ∷ []))),
+      length-append (entryText (entry kind c p last)) (13 ∷ []),
+      entry-least (entry kind c p last),
+      text-least cols es,
+    )
+
+-- With the row that is done at st.
+roomy-done : (cols : Columns) (st : State) (es : List Entry) (l : List ℕ) → Holds cols st es l → Roomy es l → (length es + length (done st)) * 10 ≤ length l + 1 - 18
+roomy-done cols Broken es l h m = omega arith
+roomy-done cols (Head k) es l h m = omega arith
+roomy-done cols HeadCr es l h m = omega arith
+roomy-done cols Start es l h m = omega arith
+roomy-done cols (Name kind k) es l h m = omega arith
+roomy-done cols (CostFirst kind) es l h m = omega arith
+roomy-done cols (Cost kind v) es l h m = omega arith
+roomy-done cols (PeriodFirst kind c) es l h m = omega arith
+roomy-done cols (Period kind c v) es l h m = omega arith
+roomy-done cols (DeadlineFirst kind c p) es l h m = omega arith
+roomy-done cols (Deadline kind c p v) es l h m = omega arith
+roomy-done cols (RowCr kind c p last) es l h m = row-least cols kind c p last es l h
+
+roomy-step : (cols : Columns) (st : State) (es : List Entry) (l : List ℕ) (b : ℕ) → Holds cols st es l → Roomy es l → Roomy (es ++ added st b) (l ++ (b ∷ []))
+roomy-step cols st es l b h m =
+    by (λ t. Roomy (es ++ pick t (done st) []) (l ++ (b ∷ []))) (eqb b 10)
+    (λ e. omega (arith, length-append es (done st), length-append l (b ∷ []), roomy-done cols st es l h m))
+    (λ e. rw append-nil (omega (arith, length-append l (b ∷ []))))
+
+roomy-from : (cols : Columns) (w : Run) (l bs : List ℕ) → Holds cols (w .st) (w .rows) l → Roomy (w .rows) l → Roomy (runFrom cols w bs .rows) (l ++ bs)
+roomy-from cols w l [] h m = rw append-nil m
+roomy-from cols w l (b ∷ bs) h m =
+    rw append-assoc at
+    (roomy-from cols (next cols w b) (l ++ (b ∷ [])) bs (step-keeps cols (w .st) (w .rows) l b h) (roomy-step cols (w .st) (w .rows) l b h m))
+
+pub run-most : (cols : Columns) (bs : List ℕ) → length (run cols bs .rows) * 10 ≤ length bs - 18
+run-most cols bs = roomy-from cols (record { st = Head 0; rows = [] }) [] bs (holds-first cols) (omega arith)
+
+-- ---- three numbers at most for each row
+
+row-most : (e : Entry) → length (rowOf Task e) + length (rowOf Handler e) ≤ 3
+row-most (entry Task c p last) = omega arith
+row-most (entry Handler c p last) = omega arith
+
+pub numbers-most : (es : List Entry) → length (numbersOf Task es) + length (numbersOf Handler es) ≤ 3 * length es
+numbers-most [] = omega arith
+numbers-most (e ∷ es) =
+    omega (
+      arith,
+      length-append (rowOf Task e) (numbersOf Task es),
+      length-append (rowOf Handler e) (numbersOf Handler es),
+      row-most e,
+      numbers-most es,
+    )
+
+pub room : (es : List Entry) → length es < 408 → Room (tableOf es)
+room es h = omega (arith, numbers-most es)

@@ -1,0 +1,248 @@
+-- Where the reader stands says what it has read: each step keeps that.
+--   Holds cols st es l   at st, with the rows es read whole under a header of these columns, the bytes read so far are l
+use mathlib.Core.Bool.{Bool, true, false}
+use mathlib.Core.List.{List, [], _∷_, _++_, append-nil, append-assoc}
+use mathlib.Core.Path.{_≡_, refl, sym, ap, subst, _∙_}
+use native.Mathlib.Numerals.{add-one}
+use native.Mathlib.Omega.{arith}
+use Prim.Native.Nat.{ℕ, _+_, _-_, _*_, _<_, _≤_}
+use borrow.Author.Tests.{ltb-true, ltb-false, eqb-true}
+use lib.Dec.{eqb}
+use lib.ListN.{length, getD, take}
+use lib.Seq.{take-suc, take-all}
+use Rattle.demand.specs.Tests.{pick}
+use Rattle.text.specs.Ascii.{crlf}
+use Rattle.layout.specs.Inside.Building.{Run, added, next, runFrom, run}
+use Rattle.layout.specs.File.{Entry, entry, headerOf, nameOf, entryText, body, text, EndsRow, Lawful, AllLawful}
+use Rattle.text.specs.Numbers.{isDigit, continues, decimal, comma, field}
+use Rattle.layout.specs.Inside.Steps.{behindPeriod, afterPeriod, emptyLast, stepOf}
+use Rattle.layout.specs.declared.steps.Columns.{Columns}
+use Rattle.layout.specs.declared.steps.Columns.the-variants.{Three, Four}
+use Rattle.demand.specs.declared.table.Kind.{Kind}
+use Rattle.demand.specs.declared.table.Kind.the-variants.{Task, Handler}
+use Rattle.layout.specs.declared.steps.Last.{Last}
+use Rattle.layout.specs.declared.steps.Last.the-variants.{NoField, Empty, Number}
+use Rattle.layout.specs.declared.steps.State.{State}
+use Rattle.layout.specs.declared.steps.State.the-variants.{Broken, Head, HeadCr, Start, Name, CostFirst, Cost, PeriodFirst, Period, DeadlineFirst, Deadline, RowCr}
+use Rattle.text.proofs.Numbers.{digit-true, continues-true, decimal-digit, decimal-digits}
+use Rattle.text.proofs.Tests.{by}
+
+-- a row as far as its period
+abbrev pub front : Kind → ℕ → ℕ → List ℕ
+front kind c p = nameOf kind ++ (field c ++ field p)
+
+unfoldable pub Holds : Columns → State → List Entry → List ℕ → Type 0
+Holds cols Broken es l = Unit
+Holds cols (Head k) es l = (es ≡ []) × (k ≤ length (headerOf cols)) × (take k (headerOf cols) ≡ l)
+Holds cols HeadCr es l = (es ≡ []) × (headerOf cols ++ (13 ∷ []) ≡ l)
+Holds cols Start es l = AllLawful cols es × (text cols es ++ crlf ≡ l)
+Holds cols (Name kind k) es l = AllLawful cols es × (k ≤ length (nameOf kind)) × (text cols es ++ (crlf ++ take k (nameOf kind)) ≡ l)
+Holds cols (CostFirst kind) es l = AllLawful cols es × (text cols es ++ (crlf ++ (nameOf kind ++ (comma ∷ []))) ≡ l)
+Holds cols (Cost kind v) es l = AllLawful cols es × (v < 10000000) × (text cols es ++ (crlf ++ (nameOf kind ++ (comma ∷ decimal v))) ≡ l)
+Holds cols (PeriodFirst kind c) es l = AllLawful cols es × (c < 10000000) × (text cols es ++ (crlf ++ (nameOf kind ++ (comma ∷ (decimal c ++ (comma ∷ []))))) ≡ l)
+Holds cols (Period kind c v) es l = AllLawful cols es × (c < 10000000) × (v < 10000000) × (text cols es ++ (crlf ++ front kind c v) ≡ l)
+Holds cols (DeadlineFirst kind c p) es l =
+    AllLawful cols es × (c < 10000000) × (p < 10000000) × (cols ≡ Four) × (text cols es ++ (crlf ++ entryText (entry kind c p Empty)) ≡ l)
+Holds cols (Deadline kind c p v) es l =
+    AllLawful cols es × (c < 10000000) × (p < 10000000) × (cols ≡ Four) × (v < 10000000) × (text cols es ++ (crlf ++ entryText (entry kind c p (Number v))) ≡ l)
+Holds cols (RowCr kind c p last) es l =
+    AllLawful cols es × Lawful cols (entry kind c p last) × (text cols es ++ (crlf ++ (entryText (entry kind c p last) ++ (13 ∷ []))) ≡ l)
+
+-- ---- texts of one byte, of one row more
+
+-- One byte more behind a text.
+more : (a x y l : List ℕ) (b : ℕ) → y ≡ x ++ (b ∷ []) → a ++ x ≡ l → a ++ y ≡ l ++ (b ∷ [])
+more a x y l b e h = ap (λ (z : List ℕ). a ++ z) e ∙ sym (append-assoc a x (b ∷ [])) ∙ ap (λ (z : List ℕ). z ++ (b ∷ [])) h
+
+take-next : (w : List ℕ) (k b : ℕ) → k < length w → b ≡ getD w k 0 → take (k + 1) w ≡ take k w ++ (b ∷ [])
+take-next w k b h e = ap (λ (n : ℕ). take n w) (add-one k) ∙ take-suc w k 0 h ∙ ap (λ (x : ℕ). take k w ++ (x ∷ [])) (sym e)
+
+lawful-next : (cols : Columns) (es : List Entry) (e : Entry) → AllLawful cols es → Lawful cols e → AllLawful cols (es ++ (e ∷ []))
+lawful-next cols [] e f s = (s, tt)
+lawful-next cols (x ∷ es) e f s = (f .0, lawful-next cols es e (f .1) s)
+
+body-next : (es : List Entry) (e : Entry) → body (es ++ (e ∷ [])) ≡ body es ++ (crlf ++ entryText e)
+body-next [] e = ap (λ (z : List ℕ). crlf ++ z) (append-nil (entryText e))
+body-next (x ∷ es) e =
+    ap (λ (z : List ℕ). crlf ++ (entryText x ++ z)) (body-next es e) ∙ ap (λ (z : List ℕ). crlf ++ z) (sym (append-assoc (entryText x) (body es) (crlf ++ entryText e)))
+
+text-next : (cols : Columns) (es : List Entry) (e : Entry) → text cols (es ++ (e ∷ [])) ≡ text cols es ++ (crlf ++ entryText e)
+text-next cols es e = ap (λ (z : List ℕ). headerOf cols ++ z) (body-next es e) ∙ sym (append-assoc (headerOf cols) (body es) (crlf ++ entryText e))
+
+-- A row's line end, its CR and its LF.
+line-end : (x : List ℕ) (b : ℕ) → b ≡ 10 → (crlf ++ x) ++ crlf ≡ (crlf ++ (x ++ (13 ∷ []))) ++ (b ∷ [])
+line-end x b e = simp (append-assoc, e)
+
+-- ---- each way that a step can go
+
+-- Behind a period stands the row's end, or the comma before its last field.
+to-behind : (cols : Columns) (es : List Entry) (l : List ℕ) (b : ℕ) (kind : Kind) (c v : ℕ) → Holds cols (Period kind c v) es l → b ≡ behindPeriod cols → Holds cols (afterPeriod cols kind c v) es (l ++ (b ∷ []))
+unfolding Holds
+to-behind Three es l b kind c v h e =
+    let ended : entryText (entry kind c v NoField) ≡ front kind c v = ap (λ (z : List ℕ). nameOf kind ++ (field c ++ z)) (append-nil (field v)) in
+    let cr : crlf ++ (entryText (entry kind c v NoField) ++ (13 ∷ [])) ≡ (crlf ++ front kind c v) ++ (b ∷ []) =
+    ap (λ (z : List ℕ). crlf ++ (z ++ (13 ∷ []))) ended ∙ ap (λ (x : ℕ). crlf ++ (front kind c v ++ (x ∷ []))) (sym e) in
+    (h .0, (h .1, h .2, tt), more (text Three es) (crlf ++ front kind c v) _ l b cr (h .3))
+to-behind Four es l b kind c v h e =
+    (h .0, h .1, h .2, refl, more (text Four es) (crlf ++ front kind c v) _ l b (simp (append-assoc, e)) (h .3))
+
+module _ (cols : Columns) (es : List Entry) (l : List ℕ) (b : ℕ) where
+  to-head : (k : ℕ) → Holds cols (Head k) es l → k < length (headerOf cols) → b ≡ getD (headerOf cols) k 0 → Holds cols (Head (k + 1)) es (l ++ (b ∷ []))
+  unfolding Holds
+  to-head k h t e = (h .0, omega arith, take-next (headerOf cols) k b t e ∙ ap (λ (z : List ℕ). z ++ (b ∷ [])) (h .2))
+
+  to-head-cr : (k : ℕ) → Holds cols (Head k) es l → length (headerOf cols) ≤ k → b ≡ 13 → Holds cols HeadCr es (l ++ (b ∷ []))
+  unfolding Holds
+  to-head-cr k h t e = (h .0, ap (λ (x : ℕ). headerOf cols ++ (x ∷ [])) (sym e) ∙ ap (λ (z : List ℕ). z ++ (b ∷ [])) (sym (take-all k (headerOf cols) t) ∙ h .2))
+
+  to-start : Holds cols HeadCr es l → b ≡ 10 → Holds cols Start es (l ++ (b ∷ []))
+  unfolding Holds
+  to-start h e = (
+    subst (AllLawful cols) (sym (h .0)) tt,
+    ap (λ (q : List Entry). text cols q ++ crlf) (h .0) ∙ ap (λ (z : List ℕ). z ++ crlf) (append-nil (headerOf cols))
+        ∙ ap (λ (x : ℕ). headerOf cols ++ (13 ∷ (x ∷ []))) (sym e) ∙ sym (append-assoc (headerOf cols) (13 ∷ []) (b ∷ []))
+        ∙ ap (λ (z : List ℕ). z ++ (b ∷ [])) (h .1),
+  )
+
+  to-name : (kind : Kind) → Holds cols Start es l → b ≡ getD (nameOf kind) 0 0 → Holds cols (Name kind 1) es (l ++ (b ∷ []))
+  unfolding Holds
+  to-name Task h e = (h .0, omega arith, more (text cols es) crlf _ l b (ap (λ (x : ℕ). 13 ∷ (10 ∷ (x ∷ []))) (sym e)) (h .1))
+  to-name Handler h e = (h .0, omega arith, more (text cols es) crlf _ l b (ap (λ (x : ℕ). 13 ∷ (10 ∷ (x ∷ []))) (sym e)) (h .1))
+
+  to-letter : (kind : Kind) (k : ℕ) → Holds cols (Name kind k) es l → k < length (nameOf kind) → b ≡ getD (nameOf kind) k 0 → Holds cols (Name kind (k + 1)) es (l ++ (b ∷ []))
+  unfolding Holds
+  to-letter kind k h t e =
+      (h .0, omega arith, more (text cols es) (crlf ++ take k (nameOf kind)) _ l b (ap (λ (z : List ℕ). crlf ++ z) (take-next (nameOf kind) k b t e)) (h .2))
+
+  to-first : (kind : Kind) (k : ℕ) → Holds cols (Name kind k) es l → length (nameOf kind) ≤ k → b ≡ comma → Holds cols (CostFirst kind) es (l ++ (b ∷ []))
+  unfolding Holds
+  to-first kind k h t e = (
+    h .0,
+    more (text cols es) (crlf ++ take k (nameOf kind)) _ l b
+        (ap (λ (z : List ℕ). crlf ++ (z ++ (comma ∷ []))) (sym (take-all k (nameOf kind) t)) ∙ ap (λ (x : ℕ). crlf ++ (take k (nameOf kind) ++ (x ∷ []))) (sym e)) (h .2),
+  )
+
+  to-cost : (kind : Kind) → Holds cols (CostFirst kind) es l → isDigit b ≡ true → Holds cols (Cost kind (b - 48)) es (l ++ (b ∷ []))
+  unfolding Holds
+  to-cost kind h t =
+      let d = digit-true b t in
+      (h .0, omega arith, more (text cols es) (crlf ++ (nameOf kind ++ (comma ∷ []))) _ l b (simp (append-assoc, decimal-digit b (d .0) (d .1))) (h .1))
+
+  to-cost-digit : (kind : Kind) (v : ℕ) → Holds cols (Cost kind v) es l → continues v b ≡ true → Holds cols (Cost kind (v * 10 + (b - 48))) es (l ++ (b ∷ []))
+  unfolding Holds
+  to-cost-digit kind v h t =
+      let w = continues-true v b t in
+      let d = digit-true b (w .0) in
+      (h .0, omega arith, more (text cols es) (crlf ++ (nameOf kind ++ (comma ∷ decimal v))) _ l b (simp (append-assoc, decimal-digits v b (w .1) (w .2) (d .0) (d .1))) (h .2))
+
+  to-second : (kind : Kind) (v : ℕ) → Holds cols (Cost kind v) es l → b ≡ comma → Holds cols (PeriodFirst kind v) es (l ++ (b ∷ []))
+  unfolding Holds
+  to-second kind v h e = (h .0, h .1, more (text cols es) (crlf ++ (nameOf kind ++ (comma ∷ decimal v))) _ l b (simp (append-assoc, e)) (h .2))
+
+  to-period : (kind : Kind) (c : ℕ) → Holds cols (PeriodFirst kind c) es l → isDigit b ≡ true → Holds cols (Period kind c (b - 48)) es (l ++ (b ∷ []))
+  unfolding Holds
+  to-period kind c h t =
+      let d = digit-true b t in
+      (h .0, h .1, omega arith, more (text cols es) (crlf ++ (nameOf kind ++ (comma ∷ (decimal c ++ (comma ∷ []))))) _ l b (simp (append-assoc, decimal-digit b (d .0) (d .1))) (h .2))
+
+  to-period-digit : (kind : Kind) (c v : ℕ) → Holds cols (Period kind c v) es l → continues v b ≡ true → Holds cols (Period kind c (v * 10 + (b - 48))) es (l ++ (b ∷ []))
+  unfolding Holds
+  to-period-digit kind c v h t =
+      let w = continues-true v b t in
+      let d = digit-true b (w .0) in
+      (h .0, h .1, omega arith, more (text cols es) (crlf ++ front kind c v) _ l b (simp (append-assoc, decimal-digits v b (w .1) (w .2) (d .0) (d .1))) (h .3))
+
+  to-empty : (kind : Kind) (c p : ℕ) → Holds cols (DeadlineFirst kind c p) es l → b ≡ 13 → Holds cols (emptyLast kind c p) es (l ++ (b ∷ []))
+  unfolding Holds
+  to-empty Task c p h e = tt
+  to-empty Handler c p h e =
+      (h .0, (h .1, h .2, subst (λ (x : Columns). EndsRow x Empty Handler) (sym (h .3)) tt), more (text cols es) (crlf ++ entryText (entry Handler c p Empty)) _ l b (simp e) (h .4))
+
+  to-deadline : (kind : Kind) (c p : ℕ) → Holds cols (DeadlineFirst kind c p) es l → isDigit b ≡ true → Holds cols (Deadline kind c p (b - 48)) es (l ++ (b ∷ []))
+  unfolding Holds
+  to-deadline kind c p h t =
+      let d = digit-true b t in
+      (h .0, h .1, h .2, h .3, omega arith, more (text cols es) (crlf ++ entryText (entry kind c p Empty)) _ l b (simp (append-assoc, decimal-digit b (d .0) (d .1))) (h .4))
+
+  to-deadline-digit : (kind : Kind) (c p v : ℕ) → Holds cols (Deadline kind c p v) es l → continues v b ≡ true → Holds cols (Deadline kind c p (v * 10 + (b - 48))) es (l ++ (b ∷ []))
+  unfolding Holds
+  to-deadline-digit kind c p v h t =
+      let w = continues-true v b t in
+      let d = digit-true b (w .0) in
+      (h .0, h .1, h .2, h .3, omega arith, more (text cols es) (crlf ++ entryText (entry kind c p (Number v))) _ l b (simp (append-assoc, decimal-digits v b (w .1) (w .2) (d .0) (d .1))) (h .5))
+
+  to-deadline-cr : (kind : Kind) (c p v : ℕ) → Holds cols (Deadline kind c p v) es l → b ≡ 13 → Holds cols (RowCr kind c p (Number v)) es (l ++ (b ∷ []))
+  unfolding Holds
+  to-deadline-cr kind c p v h e =
+      (h .0, (h .1, h .2, subst (λ (x : Columns). EndsRow x (Number v) kind) (sym (h .3)) (h .4)), more (text cols es) (crlf ++ entryText (entry kind c p (Number v))) _ l b (simp e) (h .5))
+
+  to-next-row : (kind : Kind) (c p : ℕ) (last : Last) → Holds cols (RowCr kind c p last) es l → b ≡ 10 → Holds cols Start (es ++ (entry kind c p last ∷ [])) (l ++ (b ∷ []))
+  unfolding Holds
+  to-next-row kind c p last h e = (
+    lawful-next cols es (entry kind c p last) (h .0) (h .1),
+    ap (λ (z : List ℕ). z ++ crlf) (text-next cols es (entry kind c p last)) ∙ append-assoc (text cols es) (crlf ++ entryText (entry kind c p last)) crlf
+        ∙ more (text cols es) (crlf ++ (entryText (entry kind c p last) ++ (13 ∷ []))) _ l b (line-end (entryText (entry kind c p last)) b e) (h .2),
+  )
+
+-- Broken says nothing.
+to-broken : (cols : Columns) (es : List Entry) (l : List ℕ) → Holds cols Broken es l
+unfolding Holds
+to-broken cols es l = tt
+
+-- ---- so every step keeps it
+
+-- What each way of a choice gives.
+chosen : (t : Bool) (x y : State) (cols : Columns) (es : List Entry) (l : List ℕ) → (t ≡ true → Holds cols x es l) → (t ≡ false → Holds cols y es l) → Holds cols (pick t x y) es l
+chosen true x y cols es l f g = f refl
+chosen false x y cols es l f g = g refl
+
+-- No row is done where none stood before a CR.
+undone : (t : Bool) (cols : Columns) (st : State) (es : List Entry) (l : List ℕ) → Holds cols st es l → Holds cols st (es ++ pick t [] []) l
+undone true cols st es l h = rw append-nil h
+undone false cols st es l h = rw append-nil h
+
+pub step-keeps : (cols : Columns) (st : State) (es : List Entry) (l : List ℕ) (b : ℕ) → Holds cols st es l → Holds cols (stepOf cols st b) (es ++ added st b) (l ++ (b ∷ []))
+step-keeps cols Broken es l b h = to-broken _ _ _
+step-keeps cols (Head k) es l b h = undone (eqb b 10) _ _ _ _
+    (chosen _ _ _ _ _ _
+    (λ t. chosen _ _ _ _ _ _ (λ e. to-head cols es l b k h (ltb-true _ _ t) (eqb-true _ _ e)) (λ e. to-broken _ _ _))
+    (λ t. chosen _ _ _ _ _ _ (λ e. to-head-cr cols es l b k h (ltb-false _ _ t) (eqb-true _ _ e)) (λ e. to-broken _ _ _)))
+step-keeps cols HeadCr es l b h = undone (eqb b 10) _ _ _ _ (chosen _ _ _ _ _ _ (λ e. to-start cols es l b h (eqb-true _ _ e)) (λ e. to-broken _ _ _))
+step-keeps cols Start es l b h = undone (eqb b 10) _ _ _ _
+    (chosen _ _ _ _ _ _ (λ e. to-name cols es l b Task h (eqb-true _ _ e))
+    (λ n. chosen _ _ _ _ _ _ (λ e. to-name cols es l b Handler h (eqb-true _ _ e)) (λ e. to-broken _ _ _)))
+step-keeps cols (Name kind k) es l b h = undone (eqb b 10) _ _ _ _
+    (chosen _ _ _ _ _ _
+    (λ t. chosen _ _ _ _ _ _ (λ e. to-letter cols es l b kind k h (ltb-true _ _ t) (eqb-true _ _ e)) (λ e. to-broken _ _ _))
+    (λ t. chosen _ _ _ _ _ _ (λ e. to-first cols es l b kind k h (ltb-false _ _ t) (eqb-true _ _ e)) (λ e. to-broken _ _ _)))
+step-keeps cols (CostFirst kind) es l b h = undone (eqb b 10) _ _ _ _ (chosen _ _ _ _ _ _ (λ t. to-cost cols es l b kind h t) (λ t. to-broken _ _ _))
+step-keeps cols (Cost kind v) es l b h = undone (eqb b 10) _ _ _ _
+    (chosen _ _ _ _ _ _ (λ e. to-second cols es l b kind v h (eqb-true _ _ e))
+    (λ n. chosen _ _ _ _ _ _ (λ t. to-cost-digit cols es l b kind v h t) (λ t. to-broken _ _ _)))
+step-keeps cols (PeriodFirst kind c) es l b h = undone (eqb b 10) _ _ _ _ (chosen _ _ _ _ _ _ (λ t. to-period cols es l b kind c h t) (λ t. to-broken _ _ _))
+step-keeps cols (Period kind c v) es l b h = undone (eqb b 10) _ _ _ _
+    (chosen _ _ _ _ _ _ (λ e. to-behind cols es l b kind c v h (eqb-true _ _ e))
+    (λ n. chosen _ _ _ _ _ _ (λ t. to-period-digit cols es l b kind c v h t) (λ t. to-broken _ _ _)))
+step-keeps cols (DeadlineFirst kind c p) es l b h = undone (eqb b 10) _ _ _ _
+    (chosen _ _ _ _ _ _ (λ e. to-empty cols es l b kind c p h (eqb-true _ _ e))
+    (λ n. chosen _ _ _ _ _ _ (λ t. to-deadline cols es l b kind c p h t) (λ t. to-broken _ _ _)))
+step-keeps cols (Deadline kind c p v) es l b h = undone (eqb b 10) _ _ _ _
+    (chosen _ _ _ _ _ _ (λ e. to-deadline-cr cols es l b kind c p v h (eqb-true _ _ e))
+    (λ n. chosen _ _ _ _ _ _ (λ t. to-deadline-digit cols es l b kind c p v h t) (λ t. to-broken _ _ _)))
+step-keeps cols (RowCr kind c p last) es l b h =
+    by (λ t. Holds cols (pick t Start Broken) (es ++ pick t (entry kind c p last ∷ []) []) (l ++ (b ∷ []))) (eqb b 10)
+    (λ e. to-next-row cols es l b kind c p last h (eqb-true _ _ e))
+    (λ e. to-broken _ _ _)
+
+pub holds-first : (cols : Columns) → Holds cols (Head 0) [] []
+unfolding Holds
+holds-first cols = (refl, omega arith, refl)
+
+holds-from : (cols : Columns) (w : Run) (l bs : List ℕ) → Holds cols (w .st) (w .rows) l → Holds cols (runFrom cols w bs .st) (runFrom cols w bs .rows) (l ++ bs)
+holds-from cols w l [] h = rw append-nil h
+holds-from cols w l (b ∷ bs) h =
+    rw append-assoc at (holds-from cols (next cols w b) (l ++ (b ∷ [])) bs (step-keeps cols (w .st) (w .rows) l b h))
+
+-- After any bytes the state holds of them.
+pub holds : (cols : Columns) (bs : List ℕ) → Holds cols (run cols bs .st) (run cols bs .rows) bs
+holds cols bs = holds-from cols (record { st = Head 0; rows = [] }) [] bs (holds-first cols)

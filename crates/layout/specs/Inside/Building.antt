@@ -1,0 +1,103 @@
+-- How the reader builds a table on its way. No public promise cites this.
+--   Room t               there is room in t for a row of either kind
+--   longer rows x        == a list with one number more; longerBy with several
+--   pushed t e           == the table t with the row e more
+--   grown t es           == with the rows es more
+--   done st              == the row whose CR was read last, where st is behind one
+--   added st b           == the row that the byte b ends, read at st
+--   fed t st b           == t after the byte b, read at st: a row more where b ends one
+--   closed cols t st     == what t comes to where the file ends at st: the last line may lack its CRLF
+--   Run                  == where the reader stands, and the rows that it has read whole
+--   run cols bs          == the run over the bytes bs
+--   ended cols w         == the rows of a file that ends at the run w, or nothing
+--   outcome bs           == the rows of the file bs, or nothing
+use mathlib.Core.Bool.{_||_}
+use mathlib.Core.List.{List, [], _∷_, _++_}
+use Prim.Native.Nat.{ℕ, _+_, _≤_}
+use lib.Dec.{eqb, ltb}
+use lib.ListN.{length, set}
+use Rattle.demand.specs.Tests.{pick}
+use Rattle.text.specs.Ascii.{crlf}
+use Rattle.layout.specs.File.{Entry, entry, fileMost}
+use Rattle.layout.specs.Inside.Steps.{stepOf, isStart, columnsOf}
+use Rattle.layout.specs.Table.{rowOf, misplacedIn, flatMost, brokenTable}
+use Rattle.layout.specs.declared.steps.Columns.{Columns}
+use Rattle.demand.specs.declared.table.Kind.the-variants.{Task, Handler}
+use Rattle.layout.specs.declared.steps.State.{State}
+use Rattle.layout.specs.declared.steps.State.the-variants.{Broken, Head, HeadCr, Start, Name, CostFirst, Cost, PeriodFirst, Period, DeadlineFirst, Deadline, RowCr}
+use Rattle.layout.specs.declared.reader.Flat.{Flat}
+use Rattle.layout.specs.declared.reader.Table.{Table}
+
+abbrev pub Room : Table → Type 0
+Room t = t .tasks .len + t .handlers .len + 3 ≤ flatMost
+
+abbrev pub longer : Flat → ℕ → Flat
+longer rows x = record { numbers = set (rows .numbers) (rows .len) x; len = rows .len + 1 }
+
+abbrev pub longerBy : Flat → List ℕ → Flat
+longerBy rows [] = rows
+longerBy rows (x ∷ xs) = longerBy (longer rows x) xs
+
+abbrev pub pushed : Table → Entry → Table
+pushed t e =
+    record {
+      ok = t .ok;
+      misplaced = misplacedIn e || t .misplaced;
+      tasks = longerBy (t .tasks) (rowOf Task e);
+      handlers = longerBy (t .handlers) (rowOf Handler e);
+    }
+
+abbrev pub done : State → List Entry
+done (RowCr kind c p last) = entry kind c p last ∷ []
+done Broken = []
+done (Head k) = []
+done HeadCr = []
+done Start = []
+done (Name kind k) = []
+done (CostFirst kind) = []
+done (Cost kind v) = []
+done (PeriodFirst kind c) = []
+done (Period kind c v) = []
+done (DeadlineFirst kind c p) = []
+done (Deadline kind c p v) = []
+
+abbrev pub added : State → ℕ → List Entry
+added st b = pick (eqb b 10) (done st) []
+
+abbrev pub grown : Table → List Entry → Table
+grown t [] = t
+grown t (e ∷ es) = grown (pushed t e) es
+
+abbrev pub fed : Table → State → ℕ → Table
+fed t st b = grown t (added st b)
+
+abbrev pub closed : Columns → Table → State → Table
+closed cols t st =
+    pick (isStart (stepOf cols (stepOf cols st 13) 10)) (fed t (stepOf cols st 13) 10)
+    (pick (isStart st) t brokenTable)
+
+pub record Run : Type 0 where
+  pub st : State
+  pub rows : List Entry
+
+abbrev pub next : Columns → Run → ℕ → Run
+next cols w b = record { st = stepOf cols (w .st) b; rows = w .rows ++ added (w .st) b }
+
+abbrev pub runFrom : Columns → Run → List ℕ → Run
+runFrom cols w [] = w
+runFrom cols w (b ∷ bs) = runFrom cols (next cols w b) bs
+
+abbrev pub run : Columns → List ℕ → Run
+run cols bs = runFrom cols (record { st = Head 0; rows = [] }) bs
+
+pub data Outcome : Type 0 where
+  none : Outcome
+  some : List Entry → Outcome
+
+abbrev pub ended : Columns → Run → Outcome
+ended cols w =
+    pick (isStart (runFrom cols w crlf .st)) (some (runFrom cols w crlf .rows))
+    (pick (isStart (w .st)) (some (w .rows)) none)
+
+abbrev pub outcome : List ℕ → Outcome
+outcome bs = pick (ltb fileMost (length bs)) none (ended (columnsOf bs) (run (columnsOf bs) bs))
