@@ -1,11 +1,14 @@
 -- The printed lines (01, "File and printed line"): the header, then verdict, refusal number or 0, failing length, f there, D there, load.
---   wordText w     == `fits`, `misses` or `refused`
---   lines word ..  == two CRLF lines, of any word and figures
---   printed g      == the two lines of the figures g
-use mathlib.Core.List.{List, _++_}
+--   heading             == the header: the names of the verdict and of its numbers
+--   wordText w          == `fits`, `misses` or `refused`
+--   numbersOf g         == the numbers of the figures g, in the order of the line
+--   fieldsMost          == the most numbers that a line has room for
+--   lines word numbers  == two CRLF lines, of any word and any numbers
+--   printed g           == the two lines of the figures g
+use mathlib.Core.List.{List, [], _∷_, _++_}
 use Prim.Native.Nat.{ℕ}
 use Rattle.text.specs.Ascii.{ascii, crlf}
-use Rattle.text.specs.Numbers.{field}
+use Rattle.text.specs.Numbers.{fieldsOf}
 use Rattle.verdict.specs.Promise.{Figures, Word}
 use Rattle.verdict.specs.Promise.Word.{fits, misses, refused}
 
@@ -17,9 +20,14 @@ wordText fits = ascii "fits"
 wordText misses = ascii "misses"
 wordText refused = ascii "refused"
 
-unfoldable pub lines : List ℕ → ℕ → ℕ → ℕ → ℕ → ℕ → List ℕ
-lines word code interval handler task load =
-    heading ++ crlf ++ word ++ field code ++ field interval ++ field handler ++ field task ++ field load ++ crlf
+abbrev pub numbersOf : Figures → List ℕ
+numbersOf g = g .code ∷ g .interval ∷ g .handler ∷ g .task ∷ g .load ∷ []
+
+abbrev pub fieldsMost : ℕ
+fieldsMost = 7
+
+unfoldable pub lines : List ℕ → List ℕ → List ℕ
+lines word numbers = heading ++ crlf ++ word ++ fieldsOf numbers ++ crlf
 
 unfoldable pub printed : Figures → List ℕ
-printed g = lines (wordText (g .word)) (g .code) (g .interval) (g .handler) (g .task) (g .load)
+printed g = lines (wordText (g .word)) (numbersOf g)

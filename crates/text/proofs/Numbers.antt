@@ -1,13 +1,13 @@
 -- Laws of digits and of numbers in decimal.
 use mathlib.Core.Bool.{true}
-use mathlib.Core.List.{List, [], _∷_, _++_}
-use mathlib.Core.Path.{_≡_, sym, ap, _∙_}
+use mathlib.Core.List.{List, [], _∷_, _++_, append-nil, append-assoc}
+use mathlib.Core.Path.{_≡_, refl, sym, ap, _∙_}
 use native.Mathlib.Nat.{pow-suc}
 use native.Mathlib.Omega.{arith}
 use Prim.Native.Nat.{ℕ, zero, suc, _+_, _-_, _*_, _/_, _%_, _^_, _<_, _≤_}
 use lib.ListN.{length, length-append}
 use borrow.Author.Tests.{lt-ltb, le-ltb, ltb-true, leb-true, le-leb}
-use Rattle.text.specs.Numbers.{isDigit, continues, lastDigits, decimal}
+use Rattle.text.specs.Numbers.{isDigit, continues, lastDigits, decimal, field, fieldsOf}
 use Rattle.text.proofs.Tests.{by-lt, both-true}
 
 -- ---- a digit, and a digit behind others
@@ -88,3 +88,17 @@ decimal-least n =
 pub decimal-most : (n : ℕ) → length (decimal n) ≤ 20
 unfolding decimal
 decimal-most n = last-length 20 n
+
+-- ---- fields, any count of them
+
+pub fields-append : (ms ns : List ℕ) → fieldsOf (ms ++ ns) ≡ fieldsOf ms ++ fieldsOf ns
+fields-append [] ns = refl
+fields-append (m ∷ ms) ns = ap (λ (z : List ℕ). field m ++ z) (fields-append ms ns) ∙ sym (append-assoc (field m) (fieldsOf ms) (fieldsOf ns))
+
+-- One more at the end.
+pub fields-next : (ns : List ℕ) (n : ℕ) → fieldsOf (ns ++ (n ∷ [])) ≡ fieldsOf ns ++ field n
+fields-next ns n = fields-append ns (n ∷ []) ∙ ap (λ (z : List ℕ). fieldsOf ns ++ z) (append-nil (field n))
+
+pub fields-most : (ns : List ℕ) → length (fieldsOf ns) ≤ 21 * length ns
+fields-most [] = omega arith
+fields-most (n ∷ ns) = omega (arith, length-append (field n) (fieldsOf ns), decimal-most n, fields-most ns)

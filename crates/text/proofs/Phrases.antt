@@ -6,7 +6,7 @@ use Prim.Native.Nat.{ℕ, zero, suc, _≤_}
 use lib.ListN.{length, getD, List·getD-eq-default}
 use Rattle.text.specs.Ascii.{ascii}
 use Rattle.text.specs.English.{phrases, english}
-use Rattle.text.specs.Text.{textOf, blankText, putsOf}
+use Rattle.text.specs.Text.{textMost, textOf, blankText, putsOf}
 use Rattle.text.specs.declared.Text.{Text}
 use Rattle.text.proofs.Writes.{puts-blank}
 
@@ -14,9 +14,9 @@ use Rattle.text.proofs.Writes.{puts-blank}
 
 abbrev Within : List (List ℕ) → Type 0
 Within [] = Unit
-Within (p ∷ ps) = (length p ≤ 160) × Within ps
+Within (p ∷ ps) = (length p ≤ textMost) × Within ps
 
-getD-within : (ps : List (List ℕ)) (d : List ℕ) (n : ℕ) → Within ps → length d ≤ 160 → length (getD ps n d) ≤ 160
+getD-within : (ps : List (List ℕ)) (d : List ℕ) (n : ℕ) → Within ps → length d ≤ textMost → length (getD ps n d) ≤ textMost
 getD-within [] d n w h = h
 getD-within (p ∷ ps) d zero w h = w .0
 getD-within (p ∷ ps) d (suc n) w h = getD-within ps d n (w .1) h
@@ -25,7 +25,7 @@ phrases-within : Within phrases
 phrases-within =
     (omega arith, (omega arith, (omega arith, (omega arith, (omega arith, (omega arith, (omega arith, (omega arith, (omega arith, (omega arith, (omega arith, (omega arith, (omega arith, (omega arith, tt))))))))))))))
 
-english-most : (n : ℕ) → length (english n) ≤ 160
+english-most : (n : ℕ) → length (english n) ≤ textMost
 unfolding english
 english-most n = getD-within phrases (ascii "unknown") n phrases-within (omega arith)
 

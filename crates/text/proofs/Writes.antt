@@ -7,10 +7,10 @@ use Prim.Native.Nat.{ℕ, suc, _+_, _-_, _/_, _%_, _^_, _<_, _≤_}
 use borrow.Author.Tests.{lt-ltb}
 use lib.ListN.{length, set, take, getD, replicate, length-append}
 use lib.Seq.{take-append-seam, set-at, take-suc}
-use Rattle.text.specs.Numbers.{decimal}
-use Rattle.text.specs.Text.{textOf, blankText, putOf, putsOf, Fits}
+use Rattle.text.specs.Numbers.{decimal, comma, fieldsOf}
+use Rattle.text.specs.Text.{textMost, textOf, blankText, putOf, putsOf, Fits}
 use Rattle.text.specs.declared.Text.{Text}
-use Rattle.text.proofs.Numbers.{decimal-one, decimal-next}
+use Rattle.text.proofs.Numbers.{decimal-one, decimal-next, fields-next}
 
 pub puts-none : (t : Text) → t ≡ putsOf t []
 unfolding putsOf
@@ -40,24 +40,38 @@ pub puts-digits : (t : Text) (n : ℕ) → 10 ≤ n → n < 2 ^ 64 → putOf (pu
 puts-digits t n l h =
     put-one (putsOf t (decimal (n / 10))) (48 + n % 10) ∙ sym (puts-append t (decimal (n / 10)) ((48 + n % 10) ∷ [])) ∙ ap (putsOf t) (sym (decimal-next n l h))
 
+-- ---- fields
+
+-- One number more of a slice.
+pub fields-take : (t : Text) (s : List ℕ) (i : ℕ) → i < length s →
+    putsOf (putOf (putsOf t (fieldsOf (take i s))) comma) (decimal (getD s i 0)) ≡ putsOf t (fieldsOf (take (i + 1) s))
+fields-take t s i h =
+    let n = getD s i 0 in
+    let before = fieldsOf (take i s) in
+    ap (λ (x : Text). putsOf x (decimal n)) (put-one (putsOf t before) comma)
+    ∙ sym (puts-append (putsOf t before) (comma ∷ []) (decimal n))
+    ∙ sym (puts-append t before (comma ∷ decimal n))
+    ∙ ap (putsOf t) (sym (fields-next (take i s) n))
+    ∙ sym (ap (λ (k : ℕ). putsOf t (fieldsOf (take k s))) (add-one i) ∙ ap (λ (x : List ℕ). putsOf t (fieldsOf x)) (take-suc s i 0 h))
+
 -- ---- from the empty text
 
 -- A store behind a text that has room.
-stored : (xs : List ℕ) (b : ℕ) → length xs < 160 → set (textOf xs .bytes) (length xs) b ≡ textOf (xs ++ (b ∷ [])) .bytes
+stored : (xs : List ℕ) (b : ℕ) → length xs < textMost → set (textOf xs .bytes) (length xs) b ≡ textOf (xs ++ (b ∷ [])) .bytes
 stored xs b h =
-    let free : 160 - length xs ≡ suc (159 - length xs) = omega arith in
-    let left : 159 - length xs ≡ 160 - length (xs ++ (b ∷ [])) = omega (arith, length-append xs (b ∷ [])) in
-    ap (λ (k : ℕ). set (xs ++ replicate k 0) (length xs) b) free ∙ set-at xs 0 (replicate (159 - length xs) 0) b (length xs) refl
-    ∙ sym (append-assoc xs (b ∷ []) (replicate (159 - length xs) 0)) ∙ ap (λ (k : ℕ). (xs ++ (b ∷ [])) ++ replicate k 0) left
+    let free : textMost - length xs ≡ suc (textMost - suc (length xs)) = omega arith in
+    let left : textMost - suc (length xs) ≡ textMost - length (xs ++ (b ∷ [])) = omega (arith, length-append xs (b ∷ [])) in
+    ap (λ (k : ℕ). set (xs ++ replicate k 0) (length xs) b) free ∙ set-at xs 0 (replicate (textMost - suc (length xs)) 0) b (length xs) refl
+    ∙ sym (append-assoc xs (b ∷ []) (replicate (textMost - suc (length xs)) 0)) ∙ ap (λ (k : ℕ). (xs ++ (b ∷ [])) ++ replicate k 0) left
 
 text-same : {s t : Text} → s .bytes ≡ t .bytes → s .len ≡ t .len → s ≡ t
 text-same e f = λ i. record { bytes = e i; len = f i }
 
-put-text : (xs : List ℕ) (b : ℕ) → length xs < 160 → putOf (textOf xs) b ≡ textOf (xs ++ (b ∷ []))
+put-text : (xs : List ℕ) (b : ℕ) → length xs < textMost → putOf (textOf xs) b ≡ textOf (xs ++ (b ∷ []))
 unfolding putOf
-put-text xs b h = rw (lt-ltb (length xs) 160 h) (text-same (stored xs b h) (sym (length-append xs (b ∷ []))))
+put-text xs b h = rw (lt-ltb (length xs) textMost h) (text-same (stored xs b h) (sym (length-append xs (b ∷ []))))
 
-puts-text : (xs bs : List ℕ) → length xs + length bs ≤ 160 → putsOf (textOf xs) bs ≡ textOf (xs ++ bs)
+puts-text : (xs bs : List ℕ) → length xs + length bs ≤ textMost → putsOf (textOf xs) bs ≡ textOf (xs ++ bs)
 unfolding putsOf
 puts-text xs [] h = ap textOf (sym (append-nil xs))
 puts-text xs (b ∷ bs) h =
@@ -65,11 +79,11 @@ puts-text xs (b ∷ bs) h =
     ∙ puts-text (xs ++ (b ∷ [])) bs (omega (arith, length-append xs (b ∷ [])))
     ∙ ap textOf (append-assoc xs (b ∷ []) bs)
 
-pub puts-blank : (bs : List ℕ) → length bs ≤ 160 → putsOf blankText bs ≡ textOf bs
+pub puts-blank : (bs : List ℕ) → length bs ≤ textMost → putsOf blankText bs ≡ textOf bs
 puts-blank bs h = puts-text [] bs (omega arith)
 
 -- ---- what a program writes of a text
 
 pub text-fits : (xs : List ℕ) (t : Text) → t ≡ textOf xs → Fits t
 text-fits xs t e =
-    subst Fits (sym e) (rw length-append (omega arith), ap length (sym (take-append-seam xs (replicate (160 - length xs) 0))))
+    subst Fits (sym e) (rw length-append (omega arith), ap length (sym (take-append-seam xs (replicate (textMost - length xs) 0))))

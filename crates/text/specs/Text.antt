@@ -1,4 +1,5 @@
--- Text in a fixed space of 160 bytes.
+-- Text in a fixed space.
+--   textMost        == the most bytes of a text
 --   textOf xs       == the bytes xs with zeros behind, and their count
 --   blankText       == the empty text
 --   putOf text b    == one byte more, where there is room
@@ -12,14 +13,17 @@ use lib.ListN.{length, set, take, replicate}
 use Rattle.demand.specs.Tests.{pick}
 use Rattle.text.specs.declared.Text.{Text}
 
+abbrev pub textMost : ℕ
+textMost = 224
+
 abbrev pub textOf : List ℕ → Text
-textOf xs = record { bytes = xs ++ replicate (160 - length xs) 0; len = length xs }
+textOf xs = record { bytes = xs ++ replicate (textMost - length xs) 0; len = length xs }
 
 abbrev pub blankText : Text
 blankText = textOf []
 
 unfoldable pub putOf : Text → ℕ → Text
-putOf text b = pick (ltb (text .len) 160) (record { bytes = set (text .bytes) (text .len) b; len = text .len + 1 }) text
+putOf text b = pick (ltb (text .len) textMost) (record { bytes = set (text .bytes) (text .len) b; len = text .len + 1 }) text
 
 unfoldable pub putsOf : Text → List ℕ → Text
 putsOf text [] = text

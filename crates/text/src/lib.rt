@@ -4,15 +4,15 @@ pub mod english;
 
 ghost use mathlib.Core.Path.{_≡_};
 ghost use Prim.Native.Nat.{_+_, _<_};
-ghost use Rattle.text.specs.Numbers.{decimal};
+ghost use Rattle.text.specs.Numbers.{decimal, fieldsOf};
 ghost use Rattle.text.specs.Text.{blankText, putOf, putsOf};
 
-// The longest text written here, a sheet with five figures of 20 digits, has 155 bytes.
-const SPACE: usize = 160;
+// The most bytes of a text. A sheet has 155 with its five figures of 20 digits each; with two more and their names, 209.
+pub const TEXT_MOST: usize = 224;
 
 // A text, and zeros behind.
 pub struct Text {
-    pub bytes: [u8; SPACE],
+    pub bytes: [u8; TEXT_MOST],
     pub len: usize,
 }
 
@@ -20,7 +20,7 @@ pub fn blank() -> Text
     ensures { λ r. ⌜ r ≡ blankText ⌝ }
 {
     Text {
-        bytes: [0; SPACE],
+        bytes: [0; TEXT_MOST],
         len: 0,
     }
 }
@@ -30,7 +30,7 @@ pub fn put(mut text: Text, b: u8) -> Text
     ensures { λ r. ⌜ r ≡ putOf text b ⌝ }
 {
     let n = text.len;
-    if n < SPACE {
+    if n < TEXT_MOST {
         text.bytes[n] = b;
         text.len = n + 1;
         text
@@ -76,4 +76,18 @@ pub fn number(text: Text, n: u64) -> Text
     }
     let front = number(text, n / 10);
     put(front, digit(n % 10))
+}
+
+// A comma and a number in decimal, for each of the figures.
+pub fn fields(text: Text, figures: &[u64]) -> Text
+    ensures { λ r. ⌜ r ≡ putsOf text (fieldsOf (now (figures .entry))) ⌝ }
+{
+    let mut out = text;
+    let mut i: usize = 0;
+    while i < figures.len() {
+        let n = figures[i];
+        out = number(put(out, b','), n);
+        i += 1;
+    }
+    out
 }
