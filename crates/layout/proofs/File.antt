@@ -15,10 +15,10 @@ use Rattle.layout.specs.Inside.Building.{Outcome, none, some, Run, runFr
 use Rattle.layout.specs.File.{Entry, text, AllLawful, FileSays, OneTable}
 use Rattle.layout.specs.Inside.Steps.{isStart, columnsOf}
 use Rattle.layout.specs.Table.{tableOf, ReadSays, OneReading}
-use Rattle.layout.specs.declared.steps.Columns.{Columns}
-use Rattle.layout.specs.declared.steps.Columns.the-variants.{Three, Four}
+use Rattle.layout.specs.declared.words.Columns.{Columns}
+use Rattle.layout.specs.declared.words.Columns.the-variants.{Three, Four}
 use Rattle.layout.specs.declared.steps.State.{State}
-use Rattle.layout.specs.declared.steps.State.the-variants.{Broken, Head, HeadCr, Start, Name, CostFirst, Cost, PeriodFirst, Period, DeadlineFirst, Deadline, RowCr}
+use Rattle.layout.specs.declared.steps.State.the-variants.{Broken, Head, HeadCr, Start, Name, First, Digits, RowCr}
 use Rattle.layout.specs.declared.reader.Table.{Table}
 use Rattle.layout.proofs.Inside.Builds.{tableFor, run-append}
 use Rattle.text.proofs.Tests.{by}
@@ -48,12 +48,8 @@ holds-start cols Broken es l t h = clash _ t
 holds-start cols (Head k) es l t h = clash _ t
 holds-start cols HeadCr es l t h = clash _ t
 holds-start cols (Name kind k) es l t h = clash _ t
-holds-start cols (CostFirst kind) es l t h = clash _ t
-holds-start cols (Cost kind v) es l t h = clash _ t
-holds-start cols (PeriodFirst kind c) es l t h = clash _ t
-holds-start cols (Period kind c v) es l t h = clash _ t
-holds-start cols (DeadlineFirst kind c p) es l t h = clash _ t
-holds-start cols (Deadline kind c p v) es l t h = clash _ t
+holds-start cols (First place) es l t h = clash _ t
+holds-start cols (Digits place v) es l t h = clash _ t
 holds-start cols (RowCr kind c p last) es l t h = clash _ t
 
 -- Equal ends come off.

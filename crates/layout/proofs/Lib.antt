@@ -1,3 +1,4 @@
+pub mod Places
 pub mod Inside
 pub mod File
 pub mod Table

@@ -6,21 +6,23 @@
 --   entryText e     == the row e: the kind's name and two numbers, with commas between, then its last field
 --   text cols es    == the header, then each row of es on a line of its own: CRLF between lines
 --   fileMost        == the most bytes of a file
---   EndsRow cols    which last fields a row may have: none under three columns; under four a number of at most 7 digits,
+--   digitsMost      == the most digits of a number
+--   Short n         n has no more digits than that
+--   EndsRow cols    which last fields a row may have: none under three columns; under four a number of so many digits,
 --                   and for a handler an empty one too
---   Lawful cols e   both numbers have at most 7 digits, and the row's last field is one that it may have
+--   Lawful cols e   both numbers are short, and the row's last field is one that it may have
 --   FileSays bs es  the file bs says the rows es: at most 4,096 bytes, their text, with or without the last CRLF
 --   SaysNothing bs  the file bs breaks the layout: it says no rows
 --   OneTable        a file says one list of rows at most: a statement about FileSays
 use mathlib.Core.List.{List, [], _∷_, _++_}
 use mathlib.Core.Logic.{_⊎_}
 use mathlib.Core.Path.{_≡_}
-use Prim.Native.Nat.{ℕ, _≤_, _<_}
+use Prim.Native.Nat.{ℕ, _^_, _≤_, _<_}
 use lib.ListN.{length}
 use Rattle.text.specs.Ascii.{ascii, crlf}
 use Rattle.text.specs.Numbers.{comma, field}
-use Rattle.layout.specs.declared.steps.Columns.{Columns}
-use Rattle.layout.specs.declared.steps.Columns.the-variants.{Three, Four}
+use Rattle.layout.specs.declared.words.Columns.{Columns}
+use Rattle.layout.specs.declared.words.Columns.the-variants.{Three, Four}
 use Rattle.demand.specs.declared.table.Kind.{Kind}
 use Rattle.demand.specs.declared.table.Kind.the-variants.{Task, Handler}
 use Rattle.layout.specs.declared.steps.Last.{Last}
@@ -31,6 +33,12 @@ pub data Entry : Type 0 where
 
 abbrev pub fileMost : ℕ
 fileMost = 4096
+
+abbrev pub digitsMost : ℕ
+digitsMost = 7
+
+abbrev pub Short : ℕ → Type 0
+Short n = n < 10 ^ digitsMost
 
 abbrev pub headerOf : Columns → List ℕ
 headerOf Three = ascii "kind,cost,period"
@@ -62,10 +70,10 @@ EndsRow Three (Number d) kind = ⊥
 EndsRow Four NoField kind = ⊥
 EndsRow Four Empty Task = ⊥
 EndsRow Four Empty Handler = Unit
-EndsRow Four (Number d) kind = d < 10000000
+EndsRow Four (Number d) kind = Short d
 
 abbrev pub Lawful : Columns → Entry → Type 0
-Lawful cols (entry kind c p last) = (c < 10000000) × (p < 10000000) × EndsRow cols last kind
+Lawful cols (entry kind c p last) = Short c × Short p × EndsRow cols last kind
 
 abbrev pub AllLawful : Columns → List Entry → Type 0
 AllLawful cols [] = Unit

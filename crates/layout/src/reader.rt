@@ -6,9 +6,10 @@ ghost use Rattle.layout.specs.File.{entry};
 ghost use Rattle.layout.specs.Inside.Steps.{columnsOf};
 ghost use Rattle.layout.specs.Table.{deadlineOf, isNumber, flatMost, bareTable, ReadSays};
 use crate::steps;
-use crate::steps::Columns;
 use crate::steps::Last;
 use crate::steps::State;
+use crate::words;
+use crate::words::Columns;
 use demand::table::Kind;
 
 // The most bytes of a file.
@@ -142,8 +143,8 @@ fn close(columns: Columns, t: Table, st: State) -> Table
 fn columns_of(bytes: &[u8]) -> Columns
     ensures { λ r. ⌜ r ≡ columnsOf (now (bytes .entry)) ⌝ }
 {
-    if 16 < bytes.len() {
-        if bytes[16] == b',' {
+    if words::THREE_LEN < bytes.len() {
+        if bytes[words::THREE_LEN] == b',' {
             return Columns::Four;
         }
     }

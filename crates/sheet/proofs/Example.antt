@@ -11,7 +11,7 @@ use Rattle.text.specs.Numbers.{decimal}
 use Rattle.sheet.specs.Printed.{lines, printed}
 use Rattle.text.specs.Text.{textOf}
 use Rattle.sheet.specs.Whole.{TableFigures, FileFigures, outputOf}
-use Rattle.layout.specs.declared.steps.Columns.the-variants.{Three, Four}
+use Rattle.layout.specs.declared.words.Columns.the-variants.{Three, Four}
 use Rattle.demand.specs.declared.table.Kind.the-variants.{Task, Handler}
 use Rattle.layout.specs.declared.steps.Last.the-variants.{NoField, Empty, Number}
 use Rattle.verdict.specs.Cases.{cases, plain}

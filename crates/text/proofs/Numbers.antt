@@ -20,14 +20,21 @@ digit-true b e =
 pub digit-is : (b : ℕ) → 48 ≤ b → b < 58 → isDigit b ≡ true
 digit-is b l h = simp (le-leb 48 b l, le-leb b 57 (omega arith))
 
-pub continues-true : (v b : ℕ) → continues v b ≡ true → (isDigit b ≡ true) × (0 < v) × (v < 1000000)
-continues-true v b e =
+pub continues-true : (limit v b : ℕ) → continues limit v b ≡ true → (isDigit b ≡ true) × (0 < v) × (v < limit / 10)
+continues-true limit v b e =
     let outer = both-true _ _ e in
     let inner = both-true _ _ (outer .0) in
-    (inner .0, ltb-true 0 v (inner .1), ltb-true v 1000000 (outer .1))
+    (inner .0, ltb-true 0 v (inner .1), ltb-true v (limit / 10) (outer .1))
 
-pub continues-is : (v b : ℕ) → isDigit b ≡ true → 0 < v → v < 1000000 → continues v b ≡ true
-continues-is v b e p q = simp (e, lt-ltb 0 v p, lt-ltb v 1000000 q)
+pub continues-is : (limit v b : ℕ) → isDigit b ≡ true → 0 < v → v < limit / 10 → continues limit v b ≡ true
+continues-is limit v b e p q = simp (e, lt-ltb 0 v p, lt-ltb v (limit / 10) q)
+
+-- With that digit more the number is below the limit.
+pub continues-below : (limit v b : ℕ) → continues limit v b ≡ true → v * 10 + (b - 48) < limit
+continues-below limit v b e =
+    let told = continues-true limit v b e in
+    let digit = digit-true b (told .0) in
+    omega (arith, told .2, digit .0, digit .1)
 
 -- ---- the last digits of a number
 
@@ -70,11 +77,11 @@ decimal-next n l h =
 pub decimal-digit : (b : ℕ) → 48 ≤ b → b < 58 → decimal (b - 48) ≡ b ∷ []
 decimal-digit b l h = decimal-one (b - 48) (omega arith) ∙ ap (λ (x : ℕ). x ∷ []) (omega arith)
 
-pub decimal-digits : (v b : ℕ) → 0 < v → v < 1000000 → 48 ≤ b → b < 58 → decimal (v * 10 + (b - 48)) ≡ decimal v ++ (b ∷ [])
+pub decimal-digits : (v b : ℕ) → 0 < v → v * 10 + (b - 48) < 2 ^ 64 → 48 ≤ b → b < 58 → decimal (v * 10 + (b - 48)) ≡ decimal v ++ (b ∷ [])
 decimal-digits v b p q l h =
     let front : (v * 10 + (b - 48)) / 10 ≡ v = omega arith in
     let last : 48 + (v * 10 + (b - 48)) % 10 ≡ b = omega arith in
-    decimal-next (v * 10 + (b - 48)) (omega arith) (omega arith)
+    decimal-next (v * 10 + (b - 48)) (omega arith) q
     ∙ ap (λ (x : ℕ). decimal x ++ ((48 + (v * 10 + (b - 48)) % 10) ∷ [])) front
     ∙ ap (λ (x : ℕ). decimal v ++ (x ∷ [])) last
 

@@ -18,17 +18,17 @@ pub fn worth(b: u8) -> u32
     (b - b'0') as u32
 }
 
-// May b stand behind the digits of v? No digit stands behind a leading zero, nor behind seven digits.
-pub fn continues(v: u32, b: u8) -> bool
-    ensures { λ r. ⌜ r ≡ continues v b ⌝ }
+// May b stand behind the digits of v, in a number below the limit? No digit stands behind a leading zero.
+pub fn continues(limit: u64, v: u64, b: u8) -> bool
+    ensures { λ r. ⌜ r ≡ continues limit v b ⌝ }
 {
-    is_digit(b) & (0 < v) & (v < 1_000_000)
+    is_digit(b) & (0 < v) & (v < limit / 10)
 }
 
 // The number v with one digit more.
-pub fn extended(v: u32, b: u8) -> u32
-    requires { ⌜ continues v b ≡ true ⌝ }
+pub fn extended(limit: u64, v: u64, b: u8) -> u64
+    requires { ⌜ continues limit v b ≡ true ⌝ }
     ensures { λ r. ⌜ r ≡ v * 10 + (b - 48) ⌝ }
 {
-    v * 10 + worth(b)
+    v * 10 + worth(b) as u64
 }

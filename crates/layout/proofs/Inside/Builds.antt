@@ -14,7 +14,7 @@ use Rattle.layout.specs.Inside.Building.{Room, longer, longerBy, pushed,
 use Rattle.layout.specs.File.{Entry}
 use Rattle.layout.specs.Inside.Steps.{stepOf, isStart, columnsOf}
 use Rattle.layout.specs.Table.{rowOf, numbersOf, misplacedIn, misplaced, flatOf, tableOf, brokenTable}
-use Rattle.layout.specs.declared.steps.Columns.{Columns}
+use Rattle.layout.specs.declared.words.Columns.{Columns}
 use Rattle.demand.specs.declared.table.Kind.{Kind}
 use Rattle.demand.specs.declared.table.Kind.the-variants.{Task, Handler}
 use Rattle.layout.specs.declared.steps.State.{State}

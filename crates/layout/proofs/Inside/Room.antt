@@ -11,13 +11,13 @@ use Rattle.layout.specs.Inside.Building.{Run, done, added, next, runFrom
 use Rattle.layout.specs.File.{Entry, entry, headerOf, nameOf, lastText, entryText, body, text}
 use Rattle.text.specs.Numbers.{field}
 use Rattle.layout.specs.Table.{rowOf, numbersOf, tableOf}
-use Rattle.layout.specs.declared.steps.Columns.{Columns}
-use Rattle.layout.specs.declared.steps.Columns.the-variants.{Three, Four}
+use Rattle.layout.specs.declared.words.Columns.{Columns}
+use Rattle.layout.specs.declared.words.Columns.the-variants.{Three, Four}
 use Rattle.demand.specs.declared.table.Kind.{Kind}
 use Rattle.demand.specs.declared.table.Kind.the-variants.{Task, Handler}
 use Rattle.layout.specs.declared.steps.Last.{Last}
 use Rattle.layout.specs.declared.steps.State.{State}
-use Rattle.layout.specs.declared.steps.State.the-variants.{Broken, Head, HeadCr, Start, Name, CostFirst, Cost, PeriodFirst, Period, DeadlineFirst, Deadline, RowCr}
+use Rattle.layout.specs.declared.steps.State.the-variants.{Broken, Head, HeadCr, Start, Name, First, Digits, RowCr}
 use Rattle.text.proofs.Numbers.{decimal-least}
 use Rattle.text.proofs.Tests.{by}
 use Rattle.layout.proofs.Inside.Standing.{Holds, step-keeps, holds-first}
@@ -75,12 +75,8 @@ roomy-done cols (Head k) es l h m = omega arith
 roomy-done cols HeadCr es l h m = omega arith
 roomy-done cols Start es l h m = omega arith
 roomy-done cols (Name kind k) es l h m = omega arith
-roomy-done cols (CostFirst kind) es l h m = omega arith
-roomy-done cols (Cost kind v) es l h m = omega arith
-roomy-done cols (PeriodFirst kind c) es l h m = omega arith
-roomy-done cols (Period kind c v) es l h m = omega arith
-roomy-done cols (DeadlineFirst kind c p) es l h m = omega arith
-roomy-done cols (Deadline kind c p v) es l h m = omega arith
+roomy-done cols (First place) es l h m = omega arith
+roomy-done cols (Digits place v) es l h m = omega arith
 roomy-done cols (RowCr kind c p last) es l h m = row-least cols kind c p last es l h
 
 roomy-step : (cols : Columns) (st : State) (es : List Entry) (l : List ℕ) (b : ℕ) → Holds cols st es l → Roomy es l → Roomy (es ++ added st b) (l ++ (b ∷ []))

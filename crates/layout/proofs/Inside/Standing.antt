@@ -5,7 +5,7 @@ use mathlib.Core.List.{List, [], _∷_, _++_, append-nil, append-assoc}
 use mathlib.Core.Path.{_≡_, refl, sym, ap, subst, _∙_}
 use native.Mathlib.Numerals.{add-one}
 use native.Mathlib.Omega.{arith}
-use Prim.Native.Nat.{ℕ, _+_, _-_, _*_, _<_, _≤_}
+use Prim.Native.Nat.{ℕ, _+_, _-_, _*_, _^_, _<_, _≤_}
 use borrow.Author.Tests.{ltb-true, ltb-false, eqb-true}
 use lib.Dec.{eqb}
 use lib.ListN.{length, getD, take}
@@ -13,23 +13,28 @@ use lib.Seq.{take-suc, take-all}
 use Rattle.demand.specs.Tests.{pick}
 use Rattle.text.specs.Ascii.{crlf}
 use Rattle.layout.specs.Inside.Building.{Run, added, next, runFrom, run}
-use Rattle.layout.specs.File.{Entry, entry, headerOf, nameOf, entryText, body, text, EndsRow, Lawful, AllLawful}
+use Rattle.layout.specs.File.{Entry, entry, digitsMost, Short, headerOf, nameOf, entryText, text, EndsRow, Lawful, AllLawful}
 use Rattle.text.specs.Numbers.{isDigit, continues, decimal, comma, field}
-use Rattle.layout.specs.Inside.Steps.{behindPeriod, afterPeriod, emptyLast, stepOf}
-use Rattle.layout.specs.declared.steps.Columns.{Columns}
-use Rattle.layout.specs.declared.steps.Columns.the-variants.{Three, Four}
+use Rattle.layout.specs.Inside.Steps.{upTo, behindPeriod, afterPeriod, behind, after, emptyLast, emptied, stepOf}
+use Rattle.layout.specs.declared.words.Columns.{Columns}
+use Rattle.layout.specs.declared.words.Columns.the-variants.{Three, Four}
 use Rattle.demand.specs.declared.table.Kind.{Kind}
 use Rattle.demand.specs.declared.table.Kind.the-variants.{Task, Handler}
 use Rattle.layout.specs.declared.steps.Last.{Last}
 use Rattle.layout.specs.declared.steps.Last.the-variants.{NoField, Empty, Number}
+use Rattle.layout.specs.declared.steps.Place.{Place}
+use Rattle.layout.specs.declared.steps.Place.the-variants.{Cost, Period, Deadline}
 use Rattle.layout.specs.declared.steps.State.{State}
-use Rattle.layout.specs.declared.steps.State.the-variants.{Broken, Head, HeadCr, Start, Name, CostFirst, Cost, PeriodFirst, Period, DeadlineFirst, Deadline, RowCr}
-use Rattle.text.proofs.Numbers.{digit-true, continues-true, decimal-digit, decimal-digits}
+use Rattle.layout.specs.declared.steps.State.the-variants.{Broken, Head, HeadCr, Start, Name, First, Digits, RowCr}
+use Rattle.layout.proofs.Places.{text-append}
+use Rattle.text.proofs.Numbers.{digit-true, continues-true, continues-below, decimal-digit, decimal-digits}
 use Rattle.text.proofs.Tests.{by}
 
--- a row as far as its period
-abbrev pub front : Kind → ℕ → ℕ → List ℕ
-front kind c p = nameOf kind ++ (field c ++ field p)
+-- what is known of the numbers before this one
+abbrev pub Told : Columns → Place → Type 0
+Told cols (Cost kind) = Unit
+Told cols (Period kind c) = Short c
+Told cols (Deadline kind c p) = Short c × Short p × (cols ≡ Four)
 
 unfoldable pub Holds : Columns → State → List Entry → List ℕ → Type 0
 Holds cols Broken es l = Unit
@@ -37,14 +42,8 @@ Holds cols (Head k) es l = (es ≡ []) × (k ≤ length (headerOf cols)) × (tak
 Holds cols HeadCr es l = (es ≡ []) × (headerOf cols ++ (13 ∷ []) ≡ l)
 Holds cols Start es l = AllLawful cols es × (text cols es ++ crlf ≡ l)
 Holds cols (Name kind k) es l = AllLawful cols es × (k ≤ length (nameOf kind)) × (text cols es ++ (crlf ++ take k (nameOf kind)) ≡ l)
-Holds cols (CostFirst kind) es l = AllLawful cols es × (text cols es ++ (crlf ++ (nameOf kind ++ (comma ∷ []))) ≡ l)
-Holds cols (Cost kind v) es l = AllLawful cols es × (v < 10000000) × (text cols es ++ (crlf ++ (nameOf kind ++ (comma ∷ decimal v))) ≡ l)
-Holds cols (PeriodFirst kind c) es l = AllLawful cols es × (c < 10000000) × (text cols es ++ (crlf ++ (nameOf kind ++ (comma ∷ (decimal c ++ (comma ∷ []))))) ≡ l)
-Holds cols (Period kind c v) es l = AllLawful cols es × (c < 10000000) × (v < 10000000) × (text cols es ++ (crlf ++ front kind c v) ≡ l)
-Holds cols (DeadlineFirst kind c p) es l =
-    AllLawful cols es × (c < 10000000) × (p < 10000000) × (cols ≡ Four) × (text cols es ++ (crlf ++ entryText (entry kind c p Empty)) ≡ l)
-Holds cols (Deadline kind c p v) es l =
-    AllLawful cols es × (c < 10000000) × (p < 10000000) × (cols ≡ Four) × (v < 10000000) × (text cols es ++ (crlf ++ entryText (entry kind c p (Number v))) ≡ l)
+Holds cols (First place) es l = AllLawful cols es × Told cols place × (text cols es ++ (crlf ++ upTo place) ≡ l)
+Holds cols (Digits place v) es l = AllLawful cols es × Told cols place × Short v × (text cols es ++ (crlf ++ (upTo place ++ decimal v)) ≡ l)
 Holds cols (RowCr kind c p last) es l =
     AllLawful cols es × Lawful cols (entry kind c p last) × (text cols es ++ (crlf ++ (entryText (entry kind c p last) ++ (13 ∷ []))) ≡ l)
 
@@ -61,30 +60,42 @@ lawful-next : (cols : Columns) (es : List Entry) (e : Entry) → AllLawful cols 
 lawful-next cols [] e f s = (s, tt)
 lawful-next cols (x ∷ es) e f s = (f .0, lawful-next cols es e (f .1) s)
 
-body-next : (es : List Entry) (e : Entry) → body (es ++ (e ∷ [])) ≡ body es ++ (crlf ++ entryText e)
-body-next [] e = ap (λ (z : List ℕ). crlf ++ z) (append-nil (entryText e))
-body-next (x ∷ es) e =
-    ap (λ (z : List ℕ). crlf ++ (entryText x ++ z)) (body-next es e) ∙ ap (λ (z : List ℕ). crlf ++ z) (sym (append-assoc (entryText x) (body es) (crlf ++ entryText e)))
-
 text-next : (cols : Columns) (es : List Entry) (e : Entry) → text cols (es ++ (e ∷ [])) ≡ text cols es ++ (crlf ++ entryText e)
-text-next cols es e = ap (λ (z : List ℕ). headerOf cols ++ z) (body-next es e) ∙ sym (append-assoc (headerOf cols) (body es) (crlf ++ entryText e))
+text-next cols es e = text-append cols es (e ∷ []) ∙ ap (λ (z : List ℕ). text cols es ++ (crlf ++ z)) (append-nil (entryText e))
 
 -- A row's line end, its CR and its LF.
 line-end : (x : List ℕ) (b : ℕ) → b ≡ 10 → (crlf ++ x) ++ crlf ≡ (crlf ++ (x ++ (13 ∷ []))) ++ (b ∷ [])
 line-end x b e = simp (append-assoc, e)
 
+up-to-period : (kind : Kind) (c v : ℕ) → upTo (Period kind c) ++ decimal v ≡ nameOf kind ++ (field c ++ field v)
+up-to-period kind c v =
+    append-assoc (nameOf kind) (field c ++ (comma ∷ [])) (decimal v) ∙ ap (λ (z : List ℕ). nameOf kind ++ z) (append-assoc (field c) (comma ∷ []) (decimal v))
+
+up-to-deadline : (kind : Kind) (c p v : ℕ) → upTo (Deadline kind c p) ++ decimal v ≡ entryText (entry kind c p (Number v))
+up-to-deadline kind c p v =
+    append-assoc (nameOf kind) (field c ++ (field p ++ (comma ∷ []))) (decimal v)
+    ∙ ap (λ (z : List ℕ). nameOf kind ++ z) (append-assoc (field c) (field p ++ (comma ∷ [])) (decimal v))
+    ∙ ap (λ (z : List ℕ). nameOf kind ++ (field c ++ z)) (append-assoc (field p) (comma ∷ []) (decimal v))
+
 -- ---- each way that a step can go
 
--- Behind a period stands the row's end, or the comma before its last field.
-to-behind : (cols : Columns) (es : List Entry) (l : List ℕ) (b : ℕ) (kind : Kind) (c v : ℕ) → Holds cols (Period kind c v) es l → b ≡ behindPeriod cols → Holds cols (afterPeriod cols kind c v) es (l ++ (b ∷ []))
+-- Broken says nothing.
+to-broken : (cols : Columns) (es : List Entry) (l : List ℕ) → Holds cols Broken es l
 unfolding Holds
-to-behind Three es l b kind c v h e =
-    let ended : entryText (entry kind c v NoField) ≡ front kind c v = ap (λ (z : List ℕ). nameOf kind ++ (field c ++ z)) (append-nil (field v)) in
-    let cr : crlf ++ (entryText (entry kind c v NoField) ++ (13 ∷ [])) ≡ (crlf ++ front kind c v) ++ (b ∷ []) =
-    ap (λ (z : List ℕ). crlf ++ (z ++ (13 ∷ []))) ended ∙ ap (λ (x : ℕ). crlf ++ (front kind c v ++ (x ∷ []))) (sym e) in
-    (h .0, (h .1, h .2, tt), more (text Three es) (crlf ++ front kind c v) _ l b cr (h .3))
-to-behind Four es l b kind c v h e =
-    (h .0, h .1, h .2, refl, more (text Four es) (crlf ++ front kind c v) _ l b (simp (append-assoc, e)) (h .3))
+to-broken cols es l = tt
+
+-- Behind a period stands the row's end, or the comma before its last field.
+to-behind-period : (cols : Columns) (es : List Entry) (l : List ℕ) (b : ℕ) (kind : Kind) (c v : ℕ) →
+    Holds cols (Digits (Period kind c) v) es l → b ≡ behindPeriod cols → Holds cols (afterPeriod cols kind c v) es (l ++ (b ∷ []))
+unfolding Holds
+to-behind-period Three es l b kind c v h e =
+    let ended : entryText (entry kind c v NoField) ≡ upTo (Period kind c) ++ decimal v =
+    ap (λ (z : List ℕ). nameOf kind ++ (field c ++ z)) (append-nil (field v)) ∙ sym (up-to-period kind c v) in
+    let cr : crlf ++ (entryText (entry kind c v NoField) ++ (13 ∷ [])) ≡ crlf ++ ((upTo (Period kind c) ++ decimal v) ++ (b ∷ [])) =
+    ap (λ (z : List ℕ). crlf ++ (z ++ (13 ∷ []))) ended ∙ ap (λ (x : ℕ). crlf ++ ((upTo (Period kind c) ++ decimal v) ++ (x ∷ []))) (sym e) in
+    (h .0, (h .1, h .2, tt), more (text Three es) (crlf ++ (upTo (Period kind c) ++ decimal v)) _ l b cr (h .3))
+to-behind-period Four es l b kind c v h e =
+    (h .0, (h .1, h .2, refl), more (text Four es) (crlf ++ (upTo (Period kind c) ++ decimal v)) _ l b (simp (append-assoc, e)) (h .3))
 
 module _ (cols : Columns) (es : List Entry) (l : List ℕ) (b : ℕ) where
   to-head : (k : ℕ) → Holds cols (Head k) es l → k < length (headerOf cols) → b ≡ getD (headerOf cols) k 0 → Holds cols (Head (k + 1)) es (l ++ (b ∷ []))
@@ -114,67 +125,58 @@ module _ (cols : Columns) (es : List Entry) (l : List ℕ) (b : ℕ) where
   to-letter kind k h t e =
       (h .0, omega arith, more (text cols es) (crlf ++ take k (nameOf kind)) _ l b (ap (λ (z : List ℕ). crlf ++ z) (take-next (nameOf kind) k b t e)) (h .2))
 
-  to-first : (kind : Kind) (k : ℕ) → Holds cols (Name kind k) es l → length (nameOf kind) ≤ k → b ≡ comma → Holds cols (CostFirst kind) es (l ++ (b ∷ []))
+  to-cost : (kind : Kind) (k : ℕ) → Holds cols (Name kind k) es l → length (nameOf kind) ≤ k → b ≡ comma → Holds cols (First (Cost kind)) es (l ++ (b ∷ []))
   unfolding Holds
-  to-first kind k h t e = (
+  to-cost kind k h t e = (
     h .0,
+    tt,
     more (text cols es) (crlf ++ take k (nameOf kind)) _ l b
         (ap (λ (z : List ℕ). crlf ++ (z ++ (comma ∷ []))) (sym (take-all k (nameOf kind) t)) ∙ ap (λ (x : ℕ). crlf ++ (take k (nameOf kind) ++ (x ∷ []))) (sym e)) (h .2),
   )
 
-  to-cost : (kind : Kind) → Holds cols (CostFirst kind) es l → isDigit b ≡ true → Holds cols (Cost kind (b - 48)) es (l ++ (b ∷ []))
+  -- A number's first digit, and one more.
+  to-digit : (place : Place) → Holds cols (First place) es l → isDigit b ≡ true → Holds cols (Digits place (b - 48)) es (l ++ (b ∷ []))
   unfolding Holds
-  to-cost kind h t =
+  to-digit place h t =
       let d = digit-true b t in
-      (h .0, omega arith, more (text cols es) (crlf ++ (nameOf kind ++ (comma ∷ []))) _ l b (simp (append-assoc, decimal-digit b (d .0) (d .1))) (h .1))
+      (h .0, h .1, omega (arith, d .0, d .1), more (text cols es) (crlf ++ upTo place) _ l b (ap (λ (z : List ℕ). crlf ++ (upTo place ++ z)) (decimal-digit b (d .0) (d .1))) (h .2))
 
-  to-cost-digit : (kind : Kind) (v : ℕ) → Holds cols (Cost kind v) es l → continues v b ≡ true → Holds cols (Cost kind (v * 10 + (b - 48))) es (l ++ (b ∷ []))
+  to-digits : (place : Place) (v : ℕ) → Holds cols (Digits place v) es l → continues (10 ^ digitsMost) v b ≡ true → Holds cols (Digits place (v * 10 + (b - 48))) es (l ++ (b ∷ []))
   unfolding Holds
-  to-cost-digit kind v h t =
-      let w = continues-true v b t in
-      let d = digit-true b (w .0) in
-      (h .0, omega arith, more (text cols es) (crlf ++ (nameOf kind ++ (comma ∷ decimal v))) _ l b (simp (append-assoc, decimal-digits v b (w .1) (w .2) (d .0) (d .1))) (h .2))
+  to-digits place v h t =
+      let told = continues-true (10 ^ digitsMost) v b t in
+      let d = digit-true b (told .0) in
+      let short : Short (v * 10 + (b - 48)) = continues-below (10 ^ digitsMost) v b t in
+      let longer = decimal-digits v b (told .1) (omega (arith, short)) (d .0) (d .1) in
+      let row : crlf ++ (upTo place ++ decimal (v * 10 + (b - 48))) ≡ (crlf ++ (upTo place ++ decimal v)) ++ (b ∷ []) =
+      ap (λ (z : List ℕ). crlf ++ (upTo place ++ z)) longer ∙ ap (λ (z : List ℕ). crlf ++ z) (sym (append-assoc (upTo place) (decimal v) (b ∷ []))) in
+      (h .0, h .1, short, more (text cols es) (crlf ++ (upTo place ++ decimal v)) _ l b row (h .3))
 
-  to-second : (kind : Kind) (v : ℕ) → Holds cols (Cost kind v) es l → b ≡ comma → Holds cols (PeriodFirst kind v) es (l ++ (b ∷ []))
+  -- The byte behind a number.
+  to-behind : (place : Place) (v : ℕ) → Holds cols (Digits place v) es l → b ≡ behind cols place → Holds cols (after cols place v) es (l ++ (b ∷ []))
   unfolding Holds
-  to-second kind v h e = (h .0, h .1, more (text cols es) (crlf ++ (nameOf kind ++ (comma ∷ decimal v))) _ l b (simp (append-assoc, e)) (h .2))
+  to-behind (Cost kind) v h e = (h .0, h .2, more (text cols es) (crlf ++ (upTo (Cost kind) ++ decimal v)) _ l b (simp (append-assoc, e)) (h .3))
+  to-behind (Period kind c) v h e = to-behind-period cols es l b kind c v h e
+  to-behind (Deadline kind c p) v h e =
+      let ends = subst (λ (x : Columns). EndsRow x (Number v) kind) (sym (h .1 .2)) (h .2) in
+      let cr =
+      ap (λ (z : List ℕ). crlf ++ (z ++ (13 ∷ []))) (sym (up-to-deadline kind c p v))
+      ∙ ap (λ (x : ℕ). crlf ++ ((upTo (Deadline kind c p) ++ decimal v) ++ (x ∷ []))) (sym e) in
+      (h .0, (h .1 .0, h .1 .1, ends), more (text cols es) (crlf ++ (upTo (Deadline kind c p) ++ decimal v)) _ l b cr (h .3))
 
-  to-period : (kind : Kind) (c : ℕ) → Holds cols (PeriodFirst kind c) es l → isDigit b ≡ true → Holds cols (Period kind c (b - 48)) es (l ++ (b ∷ []))
-  unfolding Holds
-  to-period kind c h t =
-      let d = digit-true b t in
-      (h .0, h .1, omega arith, more (text cols es) (crlf ++ (nameOf kind ++ (comma ∷ (decimal c ++ (comma ∷ []))))) _ l b (simp (append-assoc, decimal-digit b (d .0) (d .1))) (h .2))
-
-  to-period-digit : (kind : Kind) (c v : ℕ) → Holds cols (Period kind c v) es l → continues v b ≡ true → Holds cols (Period kind c (v * 10 + (b - 48))) es (l ++ (b ∷ []))
-  unfolding Holds
-  to-period-digit kind c v h t =
-      let w = continues-true v b t in
-      let d = digit-true b (w .0) in
-      (h .0, h .1, omega arith, more (text cols es) (crlf ++ front kind c v) _ l b (simp (append-assoc, decimal-digits v b (w .1) (w .2) (d .0) (d .1))) (h .3))
-
-  to-empty : (kind : Kind) (c p : ℕ) → Holds cols (DeadlineFirst kind c p) es l → b ≡ 13 → Holds cols (emptyLast kind c p) es (l ++ (b ∷ []))
+  -- No number at all.
+  to-empty : (kind : Kind) (c p : ℕ) → Holds cols (First (Deadline kind c p)) es l → b ≡ 13 → Holds cols (emptyLast kind c p) es (l ++ (b ∷ []))
   unfolding Holds
   to-empty Task c p h e = tt
   to-empty Handler c p h e =
-      (h .0, (h .1, h .2, subst (λ (x : Columns). EndsRow x Empty Handler) (sym (h .3)) tt), more (text cols es) (crlf ++ entryText (entry Handler c p Empty)) _ l b (simp e) (h .4))
+      let ends = subst (λ (x : Columns). EndsRow x Empty Handler) (sym (h .1 .2)) tt in
+      let cr = ap (λ (x : ℕ). crlf ++ (upTo (Deadline Handler c p) ++ (x ∷ []))) (sym e) in
+      (h .0, (h .1 .0, h .1 .1, ends), more (text cols es) (crlf ++ upTo (Deadline Handler c p)) _ l b cr (h .2))
 
-  to-deadline : (kind : Kind) (c p : ℕ) → Holds cols (DeadlineFirst kind c p) es l → isDigit b ≡ true → Holds cols (Deadline kind c p (b - 48)) es (l ++ (b ∷ []))
-  unfolding Holds
-  to-deadline kind c p h t =
-      let d = digit-true b t in
-      (h .0, h .1, h .2, h .3, omega arith, more (text cols es) (crlf ++ entryText (entry kind c p Empty)) _ l b (simp (append-assoc, decimal-digit b (d .0) (d .1))) (h .4))
-
-  to-deadline-digit : (kind : Kind) (c p v : ℕ) → Holds cols (Deadline kind c p v) es l → continues v b ≡ true → Holds cols (Deadline kind c p (v * 10 + (b - 48))) es (l ++ (b ∷ []))
-  unfolding Holds
-  to-deadline-digit kind c p v h t =
-      let w = continues-true v b t in
-      let d = digit-true b (w .0) in
-      (h .0, h .1, h .2, h .3, omega arith, more (text cols es) (crlf ++ entryText (entry kind c p (Number v))) _ l b (simp (append-assoc, decimal-digits v b (w .1) (w .2) (d .0) (d .1))) (h .5))
-
-  to-deadline-cr : (kind : Kind) (c p v : ℕ) → Holds cols (Deadline kind c p v) es l → b ≡ 13 → Holds cols (RowCr kind c p (Number v)) es (l ++ (b ∷ []))
-  unfolding Holds
-  to-deadline-cr kind c p v h e =
-      (h .0, (h .1, h .2, subst (λ (x : Columns). EndsRow x (Number v) kind) (sym (h .3)) (h .4)), more (text cols es) (crlf ++ entryText (entry kind c p (Number v))) _ l b (simp e) (h .5))
+  to-emptied : (place : Place) → Holds cols (First place) es l → b ≡ 13 → Holds cols (emptied place) es (l ++ (b ∷ []))
+  to-emptied (Cost kind) h e = to-broken _ _ _
+  to-emptied (Period kind c) h e = to-broken _ _ _
+  to-emptied (Deadline kind c p) h e = to-empty kind c p h e
 
   to-next-row : (kind : Kind) (c p : ℕ) (last : Last) → Holds cols (RowCr kind c p last) es l → b ≡ 10 → Holds cols Start (es ++ (entry kind c p last ∷ [])) (l ++ (b ∷ []))
   unfolding Holds
@@ -183,11 +185,6 @@ module _ (cols : Columns) (es : List Entry) (l : List ℕ) (b : ℕ) where
     ap (λ (z : List ℕ). z ++ crlf) (text-next cols es (entry kind c p last)) ∙ append-assoc (text cols es) (crlf ++ entryText (entry kind c p last)) crlf
         ∙ more (text cols es) (crlf ++ (entryText (entry kind c p last) ++ (13 ∷ []))) _ l b (line-end (entryText (entry kind c p last)) b e) (h .2),
   )
-
--- Broken says nothing.
-to-broken : (cols : Columns) (es : List Entry) (l : List ℕ) → Holds cols Broken es l
-unfolding Holds
-to-broken cols es l = tt
 
 -- ---- so every step keeps it
 
@@ -214,21 +211,13 @@ step-keeps cols Start es l b h = undone (eqb b 10) _ _ _ _
 step-keeps cols (Name kind k) es l b h = undone (eqb b 10) _ _ _ _
     (chosen _ _ _ _ _ _
     (λ t. chosen _ _ _ _ _ _ (λ e. to-letter cols es l b kind k h (ltb-true _ _ t) (eqb-true _ _ e)) (λ e. to-broken _ _ _))
-    (λ t. chosen _ _ _ _ _ _ (λ e. to-first cols es l b kind k h (ltb-false _ _ t) (eqb-true _ _ e)) (λ e. to-broken _ _ _)))
-step-keeps cols (CostFirst kind) es l b h = undone (eqb b 10) _ _ _ _ (chosen _ _ _ _ _ _ (λ t. to-cost cols es l b kind h t) (λ t. to-broken _ _ _))
-step-keeps cols (Cost kind v) es l b h = undone (eqb b 10) _ _ _ _
-    (chosen _ _ _ _ _ _ (λ e. to-second cols es l b kind v h (eqb-true _ _ e))
-    (λ n. chosen _ _ _ _ _ _ (λ t. to-cost-digit cols es l b kind v h t) (λ t. to-broken _ _ _)))
-step-keeps cols (PeriodFirst kind c) es l b h = undone (eqb b 10) _ _ _ _ (chosen _ _ _ _ _ _ (λ t. to-period cols es l b kind c h t) (λ t. to-broken _ _ _))
-step-keeps cols (Period kind c v) es l b h = undone (eqb b 10) _ _ _ _
-    (chosen _ _ _ _ _ _ (λ e. to-behind cols es l b kind c v h (eqb-true _ _ e))
-    (λ n. chosen _ _ _ _ _ _ (λ t. to-period-digit cols es l b kind c v h t) (λ t. to-broken _ _ _)))
-step-keeps cols (DeadlineFirst kind c p) es l b h = undone (eqb b 10) _ _ _ _
-    (chosen _ _ _ _ _ _ (λ e. to-empty cols es l b kind c p h (eqb-true _ _ e))
-    (λ n. chosen _ _ _ _ _ _ (λ t. to-deadline cols es l b kind c p h t) (λ t. to-broken _ _ _)))
-step-keeps cols (Deadline kind c p v) es l b h = undone (eqb b 10) _ _ _ _
-    (chosen _ _ _ _ _ _ (λ e. to-deadline-cr cols es l b kind c p v h (eqb-true _ _ e))
-    (λ n. chosen _ _ _ _ _ _ (λ t. to-deadline-digit cols es l b kind c p v h t) (λ t. to-broken _ _ _)))
+    (λ t. chosen _ _ _ _ _ _ (λ e. to-cost cols es l b kind k h (ltb-false _ _ t) (eqb-true _ _ e)) (λ e. to-broken _ _ _)))
+step-keeps cols (First place) es l b h = undone (eqb b 10) _ _ _ _
+    (chosen _ _ _ _ _ _ (λ e. to-emptied cols es l b place h (eqb-true _ _ e))
+    (λ n. chosen _ _ _ _ _ _ (λ t. to-digit cols es l b place h t) (λ t. to-broken _ _ _)))
+step-keeps cols (Digits place v) es l b h = undone (eqb b 10) _ _ _ _
+    (chosen _ _ _ _ _ _ (λ e. to-behind cols es l b place v h (eqb-true _ _ e))
+    (λ n. chosen _ _ _ _ _ _ (λ t. to-digits cols es l b place v h t) (λ t. to-broken _ _ _)))
 step-keeps cols (RowCr kind c p last) es l b h =
     by (λ t. Holds cols (pick t Start Broken) (es ++ pick t (entry kind c p last ∷ []) []) (l ++ (b ∷ []))) (eqb b 10)
     (λ e. to-next-row cols es l b kind c p last h (eqb-true _ _ e))

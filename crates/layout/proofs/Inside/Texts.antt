@@ -9,17 +9,19 @@ use borrow.Author.Tests.{ne-eqb}
 use Rattle.demand.specs.Tests.{pick}
 use Rattle.text.specs.Ascii.{crlf}
 use Rattle.layout.specs.Inside.Building.{Run, done, added, next, runFrom, run}
-use Rattle.layout.specs.File.{Entry, entry, nameOf, lastText, entryText, body, text, EndsRow, Lawful, AllLawful}
+use Rattle.layout.specs.File.{Entry, entry, digitsMost, Short, nameOf, lastText, entryText, body, text, EndsRow, Lawful, AllLawful}
 use Rattle.text.specs.Numbers.{lastDigits, decimal, comma, field}
-use Rattle.layout.specs.Inside.Steps.{behindPeriod, stepOf}
-use Rattle.layout.specs.declared.steps.Columns.{Columns}
-use Rattle.layout.specs.declared.steps.Columns.the-variants.{Three, Four}
+use Rattle.layout.specs.Inside.Steps.{behind, stepOf}
+use Rattle.layout.specs.declared.words.Columns.{Columns}
+use Rattle.layout.specs.declared.words.Columns.the-variants.{Three, Four}
 use Rattle.demand.specs.declared.table.Kind.{Kind}
 use Rattle.demand.specs.declared.table.Kind.the-variants.{Task, Handler}
 use Rattle.layout.specs.declared.steps.Last.{Last}
 use Rattle.layout.specs.declared.steps.Last.the-variants.{NoField, Empty, Number}
+use Rattle.layout.specs.declared.steps.Place.{Place}
+use Rattle.layout.specs.declared.steps.Place.the-variants.{Cost, Period, Deadline}
 use Rattle.layout.specs.declared.steps.State.{State}
-use Rattle.layout.specs.declared.steps.State.the-variants.{Head, Start, CostFirst, Cost, PeriodFirst, Period, DeadlineFirst, Deadline}
+use Rattle.layout.specs.declared.steps.State.the-variants.{Head, Start, First, Digits}
 use Rattle.layout.proofs.Inside.Builds.{run-append}
 use Rattle.text.proofs.Numbers.{few, many, digit-is, continues-is}
 use Rattle.text.proofs.Tests.{by-lt}
@@ -27,35 +29,10 @@ use Rattle.text.proofs.Tests.{by-lt}
 abbrev pub at : State → List Entry → Run
 at s fs = record { st = s; rows = fs }
 
-module _ (cols : Columns) where
-  run-name : (kind : Kind) (fs : List Entry) (xs : List ℕ) → runFrom cols (at Start fs) (nameOf kind ++ (comma ∷ xs)) ≡ runFrom cols (at (CostFirst kind) fs) xs
-  run-name Task fs xs = simp append-nil
-  run-name Handler fs xs = simp append-nil
-
--- A number from its first digit on, in a field: f before it, and g n when n was read.
-module _ (cols : Columns) (f : State) (g : ℕ → State) (fs : List Entry)
-    (first : (d : ℕ) → d < 10 → next cols (at f fs) (48 + d) ≡ at (g d) fs)
-    (then : (v d : ℕ) → 0 < v → v < 1000000 → d < 10 → next cols (at (g v) fs) (48 + d) ≡ at (g (v * 10 + d)) fs) where
-  run-digits : (k n : ℕ) → n < 10 ^ suc k → n < 10000000 → runFrom cols (at f fs) (lastDigits (suc k) n) ≡ at (g n) fs
-  run-digits zero n h m = ap (runFrom cols (at f fs)) (few zero n h) ∙ first n h
-  run-digits (suc k) n h m =
-      by-lt (runFrom cols (at f fs) (lastDigits (suc (suc k)) n) ≡ at (g n) fs) n 10
-      (λ l. ap (runFrom cols (at f fs)) (few (suc k) n l) ∙ first n l)
-      (λ l.
-      let q : n < 10 ^ suc k * 10 = rw pow-suc at h in
-      ap (runFrom cols (at f fs)) (many (suc k) n l)
-      ∙ run-append cols (at f fs) (lastDigits (suc k) (n / 10)) ((48 + n % 10) ∷ [])
-      ∙ ap (λ (w : Run). next cols w (48 + n % 10)) (run-digits k (n / 10) (omega arith) (omega arith))
-      ∙ then (n / 10) (n % 10) (omega arith) (omega arith) (omega arith)
-      ∙ ap (λ (x : ℕ). at (g x) fs) (omega arith))
-
-  run-decimal : (n : ℕ) → n < 10000000 → runFrom cols (at f fs) (decimal n) ≡ at (g n) fs
-  unfolding decimal
-  run-decimal n h = run-digits 19 n (omega arith) h
-
-no-digit-behind : (cols : Columns) (d : ℕ) → 48 + d ≡ behindPeriod cols → ⊥
-no-digit-behind Three d e = omega arith
-no-digit-behind Four d e = omega arith
+run-name : (cols : Columns) (kind : Kind) (fs : List Entry) (xs : List ℕ) →
+    runFrom cols (at Start fs) (nameOf kind ++ (comma ∷ xs)) ≡ runFrom cols (at (First (Cost kind)) fs) xs
+run-name cols Task fs xs = simp append-nil
+run-name cols Handler fs xs = simp append-nil
 
 -- A byte that ends no line leaves the rows as they are.
 stays : (cols : Columns) (f g : State) (fs : List Entry) (b : ℕ) → (b ≡ 10 → ⊥) → stepOf cols f b ≡ g → next cols (at f fs) b ≡ at g fs
@@ -63,53 +40,60 @@ stays cols f g fs b h e =
     let rows : fs ++ added f b ≡ fs = ap (λ (t : Bool). fs ++ pick t (done f) []) (ne-eqb b 10 h) ∙ append-nil fs in
     λ i. record { st = e i; rows = rows i }
 
-module _ (cols : Columns) (kind : Kind) (fs : List Entry) where
-  cost-first : (d : ℕ) → d < 10 → next cols (at (CostFirst kind) fs) (48 + d) ≡ at (Cost kind d) fs
-  cost-first d h =
-      let e : 48 + d - 48 ≡ d = omega arith in
-      stays cols (CostFirst kind) (Cost kind d) fs (48 + d) (λ x. omega arith) (simp (digit-is (48 + d) (omega arith) (omega arith), e))
+no-digit-behind : (cols : Columns) (place : Place) (d : ℕ) → 48 + d ≡ behind cols place → ⊥
+no-digit-behind cols (Cost kind) d e = omega arith
+no-digit-behind Three (Period kind c) d e = omega arith
+no-digit-behind Four (Period kind c) d e = omega arith
+no-digit-behind cols (Deadline kind c p) d e = omega arith
 
-  cost-then : (v d : ℕ) → 0 < v → v < 1000000 → d < 10 → next cols (at (Cost kind v) fs) (48 + d) ≡ at (Cost kind (v * 10 + d)) fs
-  cost-then v d p q h =
-      let e : 48 + d - 48 ≡ d = omega arith in
-      stays cols (Cost kind v) (Cost kind (v * 10 + d)) fs (48 + d) (λ x. omega arith)
-      (simp (ne-eqb (48 + d) comma (λ x. omega arith), continues-is v (48 + d) (digit-is (48 + d) (omega arith) (omega arith)) p q, e))
+-- A number at any place, from its first digit on.
+module _ (cols : Columns) (place : Place) (fs : List Entry) where
+  digit-first : (d : ℕ) → d < 10 → next cols (at (First place) fs) (48 + d) ≡ at (Digits place d) fs
+  digit-first d h =
+      let worth : 48 + d - 48 ≡ d = omega arith in
+      stays cols (First place) (Digits place d) fs (48 + d) (λ x. omega arith)
+      (simp (ne-eqb (48 + d) 13 (λ x. omega arith), digit-is (48 + d) (omega arith) (omega arith), worth))
 
-  period-first : (c d : ℕ) → d < 10 → next cols (at (PeriodFirst kind c) fs) (48 + d) ≡ at (Period kind c d) fs
-  period-first c d h =
-      let e : 48 + d - 48 ≡ d = omega arith in
-      stays cols (PeriodFirst kind c) (Period kind c d) fs (48 + d) (λ x. omega arith) (simp (digit-is (48 + d) (omega arith) (omega arith), e))
+  digit-then : (v d : ℕ) → 0 < v → v < 10 ^ digitsMost / 10 → d < 10 → next cols (at (Digits place v) fs) (48 + d) ≡ at (Digits place (v * 10 + d)) fs
+  digit-then v d p q h =
+      let worth : 48 + d - 48 ≡ d = omega arith in
+      let goes = continues-is (10 ^ digitsMost) v (48 + d) (digit-is (48 + d) (omega arith) (omega arith)) p q in
+      stays cols (Digits place v) (Digits place (v * 10 + d)) fs (48 + d) (λ x. omega arith)
+      (simp (ne-eqb (48 + d) (behind cols place) (no-digit-behind cols place d), goes, worth))
 
-  period-then : (c v d : ℕ) → 0 < v → v < 1000000 → d < 10 → next cols (at (Period kind c v) fs) (48 + d) ≡ at (Period kind c (v * 10 + d)) fs
-  period-then c v d p q h =
-      let e : 48 + d - 48 ≡ d = omega arith in
-      stays cols (Period kind c v) (Period kind c (v * 10 + d)) fs (48 + d) (λ x. omega arith)
-      (simp (ne-eqb (48 + d) (behindPeriod cols) (no-digit-behind cols d), continues-is v (48 + d) (digit-is (48 + d) (omega arith) (omega arith)) p q, e))
+  run-digits : (k n : ℕ) → n < 10 ^ suc k → Short n → runFrom cols (at (First place) fs) (lastDigits (suc k) n) ≡ at (Digits place n) fs
+  run-digits zero n h m = ap (runFrom cols (at (First place) fs)) (few zero n h) ∙ digit-first n h
+  run-digits (suc k) n h m =
+      by-lt (runFrom cols (at (First place) fs) (lastDigits (suc (suc k)) n) ≡ at (Digits place n) fs) n 10
+      (λ l. ap (runFrom cols (at (First place) fs)) (few (suc k) n l) ∙ digit-first n l)
+      (λ l.
+      let q : n < 10 ^ suc k * 10 = rw pow-suc at h in
+      ap (runFrom cols (at (First place) fs)) (many (suc k) n l)
+      ∙ run-append cols (at (First place) fs) (lastDigits (suc k) (n / 10)) ((48 + n % 10) ∷ [])
+      ∙ ap (λ (w : Run). next cols w (48 + n % 10)) (run-digits k (n / 10) (omega arith) (omega arith))
+      ∙ digit-then (n / 10) (n % 10) (omega arith) (omega arith) (omega arith)
+      ∙ ap (λ (x : ℕ). at (Digits place x) fs) (omega arith))
 
-  deadline-first : (c p d : ℕ) → d < 10 → next cols (at (DeadlineFirst kind c p) fs) (48 + d) ≡ at (Deadline kind c p d) fs
-  deadline-first c p d h =
-      let e : 48 + d - 48 ≡ d = omega arith in
-      stays cols (DeadlineFirst kind c p) (Deadline kind c p d) fs (48 + d) (λ x. omega arith)
-      (simp (ne-eqb (48 + d) 13 (λ x. omega arith), digit-is (48 + d) (omega arith) (omega arith), e))
+  run-decimal : (n : ℕ) → Short n → runFrom cols (at (First place) fs) (decimal n) ≡ at (Digits place n) fs
+  unfolding decimal
+  run-decimal n h = run-digits 19 n (omega arith) h
 
-  deadline-then : (c p v d : ℕ) → 0 < v → v < 1000000 → d < 10 → next cols (at (Deadline kind c p v) fs) (48 + d) ≡ at (Deadline kind c p (v * 10 + d)) fs
-  deadline-then c p v d l q h =
-      let e : 48 + d - 48 ≡ d = omega arith in
-      stays cols (Deadline kind c p v) (Deadline kind c p (v * 10 + d)) fs (48 + d) (λ x. omega arith)
-      (simp (ne-eqb (48 + d) 13 (λ x. omega arith), continues-is v (48 + d) (digit-is (48 + d) (omega arith) (omega arith)) l q, e))
+  -- And on.
+  run-number : (n : ℕ) (xs : List ℕ) → Short n → runFrom cols (at (First place) fs) (decimal n ++ xs) ≡ runFrom cols (at (Digits place n) fs) xs
+  run-number n xs h = run-append cols (at (First place) fs) (decimal n) xs ∙ ap (λ (w : Run). runFrom cols w xs) (run-decimal n h)
 
 -- As far as the period.
-run-front : (cols : Columns) (kind : Kind) (c p : ℕ) (fs : List Entry) (xs : List ℕ) → c < 10000000 → p < 10000000 → runFrom cols (at Start fs) (nameOf kind ++ (field c ++ (field p ++ xs))) ≡ runFrom cols (at (Period kind c p) fs) xs
+run-front : (cols : Columns) (kind : Kind) (c p : ℕ) (fs : List Entry) (xs : List ℕ) → Short c → Short p →
+    runFrom cols (at Start fs) (nameOf kind ++ (field c ++ (field p ++ xs))) ≡ runFrom cols (at (Digits (Period kind c) p) fs) xs
 run-front cols kind c p fs xs hc hp =
     run-name cols kind fs (decimal c ++ (field p ++ xs))
-    ∙ run-append cols (at (CostFirst kind) fs) (decimal c) (field p ++ xs)
-    ∙ ap (λ (w : Run). runFrom cols w (field p ++ xs)) (run-decimal cols (CostFirst kind) (Cost kind) fs (cost-first cols kind fs) (cost-then cols kind fs) c hc)
-    ∙ ap (λ (z : List Entry). runFrom cols (at (PeriodFirst kind c) z) (decimal p ++ xs)) (append-nil fs)
-    ∙ run-append cols (at (PeriodFirst kind c) fs) (decimal p) xs
-    ∙ ap (λ (w : Run). runFrom cols w xs) (run-decimal cols (PeriodFirst kind c) (Period kind c) fs (period-first cols kind fs c) (period-then cols kind fs c) p hp)
+    ∙ run-number cols (Cost kind) fs c (field p ++ xs) hc
+    ∙ ap (λ (z : List Entry). runFrom cols (at (First (Period kind c)) z) (decimal p ++ xs)) (append-nil fs)
+    ∙ run-number cols (Period kind c) fs p xs hp
 
 -- The rest of a row, and its line end.
-run-last : (cols : Columns) (kind : Kind) (c p : ℕ) (last : Last) (fs : List Entry) → EndsRow cols last kind → runFrom cols (runFrom cols (at (Period kind c p) fs) (lastText last)) crlf ≡ at Start (fs ++ (entry kind c p last ∷ []))
+run-last : (cols : Columns) (kind : Kind) (c p : ℕ) (last : Last) (fs : List Entry) → EndsRow cols last kind →
+    runFrom cols (runFrom cols (at (Digits (Period kind c) p) fs) (lastText last)) crlf ≡ at Start (fs ++ (entry kind c p last ∷ []))
 run-last Three kind c p NoField fs h = ap (λ (z : List Entry). at Start (z ++ (entry kind c p NoField ∷ []))) (append-nil fs)
 run-last Three kind c p Empty fs h = absurd h
 run-last Three kind c p (Number d) fs h = absurd h
@@ -117,8 +101,8 @@ run-last Four kind c p NoField fs h = absurd h
 run-last Four Task c p Empty fs h = absurd h
 run-last Four Handler c p Empty fs h = ap (λ (z : List Entry). at Start (z ++ (entry Handler c p Empty ∷ []))) (append-nil (fs ++ []) ∙ append-nil fs)
 run-last Four kind c p (Number d) fs h =
-    ap (λ (z : List Entry). runFrom Four (runFrom Four (at (DeadlineFirst kind c p) z) (decimal d)) crlf) (append-nil fs)
-    ∙ ap (λ (w : Run). runFrom Four w crlf) (run-decimal Four (DeadlineFirst kind c p) (Deadline kind c p) fs (deadline-first Four kind fs c p) (deadline-then Four kind fs c p) d h)
+    ap (λ (z : List Entry). runFrom Four (runFrom Four (at (First (Deadline kind c p)) z) (decimal d)) crlf) (append-nil fs)
+    ∙ ap (λ (w : Run). runFrom Four w crlf) (run-decimal Four (Deadline kind c p) fs d h)
     ∙ ap (λ (z : List Entry). at Start (z ++ (entry kind c p (Number d) ∷ []))) (append-nil fs)
 
 run-entry : (cols : Columns) (e : Entry) (fs : List Entry) → Lawful cols e → runFrom cols (runFrom cols (at Start fs) (entryText e)) crlf ≡ at Start (fs ++ (e ∷ []))

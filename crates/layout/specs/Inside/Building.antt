@@ -21,10 +21,10 @@ use Rattle.text.specs.Ascii.{crlf}
 use Rattle.layout.specs.File.{Entry, entry, fileMost}
 use Rattle.layout.specs.Inside.Steps.{stepOf, isStart, columnsOf}
 use Rattle.layout.specs.Table.{rowOf, misplacedIn, flatMost, brokenTable}
-use Rattle.layout.specs.declared.steps.Columns.{Columns}
+use Rattle.layout.specs.declared.words.Columns.{Columns}
 use Rattle.demand.specs.declared.table.Kind.the-variants.{Task, Handler}
 use Rattle.layout.specs.declared.steps.State.{State}
-use Rattle.layout.specs.declared.steps.State.the-variants.{Broken, Head, HeadCr, Start, Name, CostFirst, Cost, PeriodFirst, Period, DeadlineFirst, Deadline, RowCr}
+use Rattle.layout.specs.declared.steps.State.the-variants.{Broken, Head, HeadCr, Start, Name, First, Digits, RowCr}
 use Rattle.layout.specs.declared.reader.Flat.{Flat}
 use Rattle.layout.specs.declared.reader.Table.{Table}
 
@@ -54,12 +54,8 @@ done (Head k) = []
 done HeadCr = []
 done Start = []
 done (Name kind k) = []
-done (CostFirst kind) = []
-done (Cost kind v) = []
-done (PeriodFirst kind c) = []
-done (Period kind c v) = []
-done (DeadlineFirst kind c p) = []
-done (Deadline kind c p v) = []
+done (First place) = []
+done (Digits place v) = []
 
 abbrev pub added : State → ℕ → List Entry
 added st b = pick (eqb b 10) (done st) []

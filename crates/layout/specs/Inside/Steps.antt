@@ -1,43 +1,68 @@
 -- The reader's own steps from byte to byte, under a header of three or four columns. No public promise cites them.
---   behindPeriod cols   == the byte behind a period: the CR of its row's end, or a comma before the last field
+--   Place               == which number of a row: of what kind, and behind which numbers
+--   upTo place          == the text of a row as far as this number: its name, the numbers before it, and a comma
+--   behind cols place   == the byte that ends this number: the CR of its row's end, or a comma before the next field
+--   after cols place v  == where that byte takes a reader that has read v
+--   emptied place       == where a CR takes a reader that has read no digit: a handler's deadline alone may be left out
 --   stepOf cols st b    == where the byte b takes a reader that stands at st
 --   Leads st b r        the byte b takes a reader that stands at st to r under either header
 --   isStart st          == st is the start of a row's line
 --   columnsOf bs        == the columns of the file bs, which its 17th byte tells
 use mathlib.Core.Bool.{Bool, true, false}
-use mathlib.Core.List.{List}
+use mathlib.Core.List.{List, [], _∷_, _++_}
 use mathlib.Core.Path.{_≡_}
-use Prim.Native.Nat.{ℕ, _+_, _-_, _*_}
+use Prim.Native.Nat.{ℕ, _+_, _-_, _*_, _^_}
 use lib.Dec.{eqb, ltb}
 use lib.ListN.{length, getD}
 use Rattle.demand.specs.Tests.{pick}
-use Rattle.layout.specs.File.{headerOf, nameOf}
-use Rattle.text.specs.Numbers.{isDigit, continues, comma}
-use Rattle.layout.specs.declared.steps.Columns.{Columns}
-use Rattle.layout.specs.declared.steps.Columns.the-variants.{Three, Four}
 use Rattle.demand.specs.declared.table.Kind.{Kind}
 use Rattle.demand.specs.declared.table.Kind.the-variants.{Task, Handler}
+use Rattle.layout.specs.File.{digitsMost, headerOf, nameOf}
 use Rattle.layout.specs.declared.steps.Last.the-variants.{NoField, Empty, Number}
+use Rattle.layout.specs.declared.steps.Place.{Place}
+use Rattle.layout.specs.declared.steps.Place.the-variants.{Cost, Period, Deadline}
 use Rattle.layout.specs.declared.steps.State.{State}
-use Rattle.layout.specs.declared.steps.State.the-variants.{Broken, Head, HeadCr, Start, Name, CostFirst, Cost, PeriodFirst, Period, DeadlineFirst, Deadline, RowCr}
+use Rattle.layout.specs.declared.steps.State.the-variants.{Broken, Head, HeadCr, Start, Name, First, Digits, RowCr}
+use Rattle.layout.specs.declared.words.Columns.{Columns}
+use Rattle.layout.specs.declared.words.Columns.the-variants.{Three, Four}
+use Rattle.text.specs.Numbers.{isDigit, continues, comma, field}
 
 -- the state where a test holds, else broken
 abbrev pub orBroken : Bool → State → State
 orBroken t st = pick t st Broken
 
+abbrev pub upTo : Place → List ℕ
+upTo (Cost kind) = nameOf kind ++ (comma ∷ [])
+upTo (Period kind c) = nameOf kind ++ (field c ++ (comma ∷ []))
+upTo (Deadline kind c p) = nameOf kind ++ (field c ++ (field p ++ (comma ∷ [])))
+
 abbrev pub behindPeriod : Columns → ℕ
 behindPeriod Three = 13
 behindPeriod Four = comma
 
--- where that byte takes the reader
+abbrev pub behind : Columns → Place → ℕ
+behind cols (Cost kind) = comma
+behind cols (Period kind c) = behindPeriod cols
+behind cols (Deadline kind c p) = 13
+
 abbrev pub afterPeriod : Columns → Kind → ℕ → ℕ → State
 afterPeriod Three kind c p = RowCr kind c p NoField
-afterPeriod Four kind c p = DeadlineFirst kind c p
+afterPeriod Four kind c p = First (Deadline kind c p)
+
+abbrev pub after : Columns → Place → ℕ → State
+after cols (Cost kind) v = First (Period kind v)
+after cols (Period kind c) v = afterPeriod cols kind c v
+after cols (Deadline kind c p) v = RowCr kind c p (Number v)
 
 -- a row that ends behind its last comma: a handler's may
 abbrev pub emptyLast : Kind → ℕ → ℕ → State
 emptyLast Task c p = Broken
 emptyLast Handler c p = RowCr Handler c p Empty
+
+abbrev pub emptied : Place → State
+emptied (Cost kind) = Broken
+emptied (Period kind c) = Broken
+emptied (Deadline kind c p) = emptyLast kind c p
 
 abbrev pub stepOf : Columns → State → ℕ → State
 stepOf cols Broken b = Broken
@@ -48,15 +73,10 @@ stepOf cols Start b = pick (eqb b 116) (Name Task 1) (orBroken (eqb b 104) (Name
 stepOf cols (Name kind k) b =
     pick (ltb k (length (nameOf kind)))
     (orBroken (eqb b (getD (nameOf kind) k 0)) (Name kind (k + 1)))
-    (orBroken (eqb b comma) (CostFirst kind))
-stepOf cols (CostFirst kind) b = orBroken (isDigit b) (Cost kind (b - 48))
-stepOf cols (Cost kind v) b = pick (eqb b comma) (PeriodFirst kind v) (orBroken (continues v b) (Cost kind (v * 10 + (b - 48))))
-stepOf cols (PeriodFirst kind c) b = orBroken (isDigit b) (Period kind c (b - 48))
-stepOf cols (Period kind c v) b =
-    pick (eqb b (behindPeriod cols)) (afterPeriod cols kind c v) (orBroken (continues v b) (Period kind c (v * 10 + (b - 48))))
-stepOf cols (DeadlineFirst kind c p) b = pick (eqb b 13) (emptyLast kind c p) (orBroken (isDigit b) (Deadline kind c p (b - 48)))
-stepOf cols (Deadline kind c p v) b =
-    pick (eqb b 13) (RowCr kind c p (Number v)) (orBroken (continues v b) (Deadline kind c p (v * 10 + (b - 48))))
+    (orBroken (eqb b comma) (First (Cost kind)))
+stepOf cols (First place) b = pick (eqb b 13) (emptied place) (orBroken (isDigit b) (Digits place (b - 48)))
+stepOf cols (Digits place v) b =
+    pick (eqb b (behind cols place)) (after cols place v) (orBroken (continues (10 ^ digitsMost) v b) (Digits place (v * 10 + (b - 48))))
 stepOf cols (RowCr kind c p last) b = orBroken (eqb b 10) Start
 
 abbrev pub Leads : State → ℕ → State → Type 0
@@ -68,12 +88,8 @@ isStart Broken = false
 isStart (Head k) = false
 isStart HeadCr = false
 isStart (Name kind k) = false
-isStart (CostFirst kind) = false
-isStart (Cost kind v) = false
-isStart (PeriodFirst kind c) = false
-isStart (Period kind c v) = false
-isStart (DeadlineFirst kind c p) = false
-isStart (Deadline kind c p v) = false
+isStart (First place) = false
+isStart (Digits place v) = false
 isStart (RowCr kind c p last) = false
 
 -- behind `kind,cost,period` a header of four columns goes on with a comma

@@ -3,7 +3,7 @@ use mathlib.Core.Path.{_≡_, refl}
 use denote.Enum.Declared.{tagOf}
 use types.Run.{OneOf, miss}
 use Rattle.layout.specs.declared.steps.State.{State}
-use Rattle.layout.specs.declared.steps.State.the-variants.{Broken, Head, HeadCr, Start, Name, CostFirst, Cost, PeriodFirst, Period, DeadlineFirst, Deadline, RowCr}
+use Rattle.layout.specs.declared.steps.State.the-variants.{Broken, Head, HeadCr, Start, Name, First, Digits, RowCr}
 use Rattle.layout.proofs.steps.State.{the-type}
 use borrow.Author.Tests.{eq-eqb, ne-eqb}
 use Rattle.layout.specs.Inside.Building.{done}
@@ -12,19 +12,15 @@ use Rattle.layout.proofs.reader.feed.Statement.{statement}
 use Rattle.layout.proofs.reader.feed.Tie as tie
 
 -- No state but RowCr has a row done.
-kept : (st : State) → OneOf (0 ∷ 1 ∷ 2 ∷ 3 ∷ 4 ∷ 5 ∷ 6 ∷ 7 ∷ 8 ∷ 9 ∷ 10 ∷ []) (tagOf the-type st) → done st ≡ []
+kept : (st : State) → OneOf (0 ∷ 1 ∷ 2 ∷ 3 ∷ 4 ∷ 5 ∷ 6 ∷ []) (tagOf the-type st) → done st ≡ []
 kept Broken h = refl
 kept (Head k) h = refl
 kept HeadCr h = refl
 kept Start h = refl
 kept (Name kind k) h = refl
-kept (CostFirst kind) h = refl
-kept (Cost kind v) h = refl
-kept (PeriodFirst kind c) h = refl
-kept (Period kind c v) h = refl
-kept (DeadlineFirst kind c p) h = refl
-kept (Deadline kind c p v) h = refl
-kept (RowCr kind c p last) h = absurd (miss (0 ∷ 1 ∷ 2 ∷ 3 ∷ 4 ∷ 5 ∷ 6 ∷ 7 ∷ 8 ∷ 9 ∷ 10 ∷ []) 11 tt h)
+kept (First place) h = refl
+kept (Digits place v) h = refl
+kept (RowCr kind c p last) h = absurd (miss (0 ∷ 1 ∷ 2 ∷ 3 ∷ 4 ∷ 5 ∷ 6 ∷ []) 7 tt h)
 
 enum-known-st : tie.Need-enum-known-st
 enum-known-st c = search needs

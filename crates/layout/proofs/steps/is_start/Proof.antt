@@ -3,7 +3,7 @@ use mathlib.Core.Path.{_≡_, refl, sym}
 use denote.Enum.Declared.{tagOf}
 use types.Run.{OneOf, miss}
 use Rattle.layout.specs.declared.steps.State.{State}
-use Rattle.layout.specs.declared.steps.State.the-variants.{Broken, Head, HeadCr, Start, Name, CostFirst, Cost, PeriodFirst, Period, DeadlineFirst, Deadline, RowCr}
+use Rattle.layout.specs.declared.steps.State.the-variants.{Broken, Head, HeadCr, Start, Name, First, Digits, RowCr}
 use Rattle.layout.proofs.steps.State.{the-type}
 use mathlib.Core.Bool.{false}
 use Rattle.layout.specs.Inside.Steps.{isStart}
@@ -12,18 +12,14 @@ use Rattle.layout.proofs.steps.is_start.Statement.{statement}
 use Rattle.layout.proofs.steps.is_start.Tie as tie
 
 -- Every other state is none.
-elsewhere : (st : State) → OneOf (0 ∷ 1 ∷ 2 ∷ 4 ∷ 5 ∷ 6 ∷ 7 ∷ 8 ∷ 9 ∷ 10 ∷ 11 ∷ []) (tagOf the-type st) → isStart st ≡ false
+elsewhere : (st : State) → OneOf (0 ∷ 1 ∷ 2 ∷ 4 ∷ 5 ∷ 6 ∷ 7 ∷ []) (tagOf the-type st) → isStart st ≡ false
 elsewhere Broken h = refl
 elsewhere (Head k) h = refl
 elsewhere HeadCr h = refl
-elsewhere Start h = absurd (miss (0 ∷ 1 ∷ 2 ∷ 4 ∷ 5 ∷ 6 ∷ 7 ∷ 8 ∷ 9 ∷ 10 ∷ 11 ∷ []) 3 tt h)
+elsewhere Start h = absurd (miss (0 ∷ 1 ∷ 2 ∷ 4 ∷ 5 ∷ 6 ∷ 7 ∷ []) 3 tt h)
 elsewhere (Name kind k) h = refl
-elsewhere (CostFirst kind) h = refl
-elsewhere (Cost kind v) h = refl
-elsewhere (PeriodFirst kind c) h = refl
-elsewhere (Period kind c v) h = refl
-elsewhere (DeadlineFirst kind c p) h = refl
-elsewhere (Deadline kind c p v) h = refl
+elsewhere (First place) h = refl
+elsewhere (Digits place v) h = refl
 elsewhere (RowCr kind c p last) h = refl
 
 enum-told : tie.Need-enum-told

@@ -38,32 +38,8 @@ in-first-requires c κs = search needs
 enum-known-st-4 : tie.Need-enum-known-st-4
 enum-known-st-4 c = search needs
 
-in-cost-requires : tie.Need-in-cost-requires
-in-cost-requires c κs = search needs
-
-enum-known-st-5 : tie.Need-enum-known-st-5
-enum-known-st-5 c = search needs
-
-in-second-requires : tie.Need-in-second-requires
-in-second-requires c κs = search needs
-
-enum-known-st-6 : tie.Need-enum-known-st-6
-enum-known-st-6 c = search needs
-
-in-period-requires : tie.Need-in-period-requires
-in-period-requires c κs = search needs
-
-enum-known-st-7 : tie.Need-enum-known-st-7
-enum-known-st-7 c = search needs
-
-in-third-requires : tie.Need-in-third-requires
-in-third-requires c κs = search needs
-
-enum-known-st-8 : tie.Need-enum-known-st-8
-enum-known-st-8 c = search needs
-
-in-deadline-requires : tie.Need-in-deadline-requires
-in-deadline-requires c κs = search needs
+in-digits-requires : tie.Need-in-digits-requires
+in-digits-requires c κs = search needs
 
 enum-told-4 : tie.Need-enum-told-4
 enum-told-4 c = search needs
@@ -90,22 +66,10 @@ returns-6 : tie.Need-returns-6
 returns-6 c = rw (c .before .before .st3 .given .1) (c .in-first .ensures (c .before .before .before .before .args .columns))
 
 returns-7 : tie.Need-returns-7
-returns-7 c = rw (c .before .before .st4 .given .1) (c .in-cost .ensures (c .before .before .before .before .args .columns))
+returns-7 c = rw (c .before .before .st4 .given .1) (c .in-digits .ensures)
 
 returns-8 : tie.Need-returns-8
-returns-8 c = rw (c .before .before .st5 .given .1) (c .in-second .ensures (c .before .before .before .before .args .columns))
-
-returns-9 : tie.Need-returns-9
-returns-9 c = rw (c .before .before .st6 .given .1) (c .in-period .ensures)
-
-returns-10 : tie.Need-returns-10
-returns-10 c = rw (c .before .before .st7 .given .1) (c .in-third .ensures (c .before .before .before .before .args .columns))
-
-returns-11 : tie.Need-returns-11
-returns-11 c = rw (c .before .before .st8 .given .1) (c .in-deadline .ensures (c .before .before .before .before .args .columns))
-
-returns-12 : tie.Need-returns-12
-returns-12 c = rw (c .before .enum-told4 .given .1) (c .at-end2 .ensures (c .before .before .before .args .columns))
+returns-8 c = rw (c .before .enum-told4 .given .1) (c .at-end2 .ensures (c .before .before .before .args .columns))
 
 pub step-spec : {M : Type 1} → statement M
 step-spec =
@@ -123,15 +87,7 @@ step-spec =
     enum-known-st-3
     in-first-requires
     enum-known-st-4
-    in-cost-requires
-    enum-known-st-5
-    in-second-requires
-    enum-known-st-6
-    in-period-requires
-    enum-known-st-7
-    in-third-requires
-    enum-known-st-8
-    in-deadline-requires
+    in-digits-requires
     enum-told-4
     at-end-requires-2
     returns
@@ -141,8 +97,4 @@ step-spec =
     returns-5
     returns-6
     returns-7
-    returns-8
-    returns-9
-    returns-10
-    returns-11
-    returns-12)
+    returns-8)

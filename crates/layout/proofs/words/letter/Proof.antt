@@ -1,10 +1,10 @@
 use mathlib.Core.Path.{sym}
 use lib.ListN.{List·getD-eq-default}
-use Rattle.layout.specs.File.{headerOf}
-use Rattle.layout.specs.declared.steps.Columns.the-variants.{Three, Four}
+use Rattle.layout.specs.File.{nameOf}
+use Rattle.demand.specs.declared.table.Kind.the-variants.{Task, Handler}
 use borrow.Author.Needs.{needs}
-use Rattle.layout.proofs.steps.header_byte.Statement.{statement}
-use Rattle.layout.proofs.steps.header_byte.Tie as tie
+use Rattle.layout.proofs.words.letter.Statement.{statement}
+use Rattle.layout.proofs.words.letter.Tie as tie
 
 enum-told : tie.Need-enum-told
 enum-told c = search needs
@@ -22,16 +22,16 @@ returns : tie.Need-returns
 returns c = cc
 
 returns-2 : tie.Need-returns-2
-returns-2 c = rw (c .before .enum-told .given .1) (sym (List·getD-eq-default (headerOf Three) 0 (c .if1 .left)))
+returns-2 c = rw (c .before .enum-told .given .1) (sym (List·getD-eq-default (nameOf Task) 0 (c .if1 .left)))
 
 returns-3 : tie.Need-returns-3
 returns-3 c = cc
 
 returns-4 : tie.Need-returns-4
-returns-4 c = rw (c .before .enum-told2 .given .1) (sym (List·getD-eq-default (headerOf Four) 0 (c .if2 .left)))
+returns-4 c = rw (c .before .enum-told2 .given .1) (sym (List·getD-eq-default (nameOf Handler) 0 (c .if2 .left)))
 
-pub header-byte-spec : {M : Type 1} → statement M
-header-byte-spec =
+pub letter-spec : {M : Type 1} → statement M
+letter-spec =
     tie.close
     (tie.spec
     enum-told
