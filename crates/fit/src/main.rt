@@ -1,6 +1,7 @@
 // Reads a table from standard input, and prints its sheet: two lines on standard output, and on a refusal its number and
 // English line on standard error.
 ghost use Rattle.text.specs.Text.{Fits};
+use layout::reader::FILE_MOST;
 use libc::STDERR_FILENO;
 use libc::STDIN_FILENO;
 use libc::STDOUT_FILENO;
@@ -25,8 +26,10 @@ fn explain(number: u32) {
 }
 
 // One byte more than a file may have is read, so that a longer one is known as such.
+const READ_MOST: usize = FILE_MOST + 1;
+
 fn main() {
-    let mut input = [0u8; 4097];
+    let mut input = [0u8; READ_MOST];
     let n = io::read_full(STDIN_FILENO, &mut input);
     let output = sheet::sheet(&input[..n]);
     let refusal = output.refusal;

@@ -5,7 +5,7 @@ use mathlib.Core.List.{List, [], _∷_, _++_, append-assoc}
 use mathlib.Core.Path.{_≡_, refl, sym, ap, _∙_}
 use Prim.Native.Nat.{ℕ}
 use Rattle.demand.specs.declared.table.Kind.{Kind}
-use Rattle.layout.specs.File.{Entry, entry, headerOf, nameOf, lastText, entryText, body, text}
+use Rattle.layout.specs.File.{Entry, entry, headerOf, nameOf, lastText, entryText, body, fileText}
 use Rattle.layout.specs.Inside.Steps.{upTo}
 use Rattle.layout.specs.declared.steps.Last.{Last}
 use Rattle.layout.specs.declared.steps.Place.the-variants.{Cost}
@@ -14,19 +14,17 @@ use Rattle.text.specs.Ascii.{crlf}
 use Rattle.text.specs.Numbers.{decimal, comma, field}
 
 abbrev pub beforeCost : Columns → List Entry → Kind → List ℕ
-beforeCost cols es kind = text cols es ++ (crlf ++ upTo (Cost kind))
+beforeCost cols es kind = fileText cols es ++ (crlf ++ upTo (Cost kind))
 
 abbrev pub behindCost : ℕ → Last → List Entry → List ℕ
 behindCost p last fs = field p ++ (lastText last ++ body fs)
 
 body-append : (es fs : List Entry) → body (es ++ fs) ≡ body es ++ body fs
 body-append [] fs = refl
-body-append (e ∷ es) fs =
-    ap (λ (z : List ℕ). crlf ++ (entryText e ++ z)) (body-append es fs)
-    ∙ ap (λ (z : List ℕ). crlf ++ z) (sym (append-assoc (entryText e) (body es) (body fs)))
+body-append (e ∷ es) fs = simp (body-append es fs, append-assoc)
 
-pub text-append : (cols : Columns) (es fs : List Entry) → text cols (es ++ fs) ≡ text cols es ++ body fs
-text-append cols es fs = ap (λ (z : List ℕ). headerOf cols ++ z) (body-append es fs) ∙ sym (append-assoc (headerOf cols) (body es) (body fs))
+pub file-text-append : (cols : Columns) (es fs : List Entry) → fileText cols (es ++ fs) ≡ fileText cols es ++ body fs
+file-text-append cols es fs = ap (λ (z : List ℕ). headerOf cols ++ z) (body-append es fs) ∙ sym (append-assoc (headerOf cols) (body es) (body fs))
 
 -- A row up to its cost, the cost, and the rest of the file.
 row-splits : (kind : Kind) (c p : ℕ) (last : Last) (fs : List Entry) →
@@ -38,8 +36,8 @@ row-splits kind c p last fs =
     ∙ sym (append-assoc (nameOf kind) (comma ∷ []) (decimal c ++ behindCost p last fs))
 
 pub cost-stands : (cols : Columns) (es fs : List Entry) (kind : Kind) (c p : ℕ) (last : Last) →
-    text cols (es ++ (entry kind c p last ∷ fs)) ≡ beforeCost cols es kind ++ (decimal c ++ behindCost p last fs)
+    fileText cols (es ++ (entry kind c p last ∷ fs)) ≡ beforeCost cols es kind ++ (decimal c ++ behindCost p last fs)
 cost-stands cols es fs kind c p last =
-    text-append cols es (entry kind c p last ∷ fs)
-    ∙ ap (λ (z : List ℕ). text cols es ++ (crlf ++ z)) (row-splits kind c p last fs)
-    ∙ sym (append-assoc (text cols es) (crlf ++ upTo (Cost kind)) (decimal c ++ behindCost p last fs))
+    file-text-append cols es (entry kind c p last ∷ fs)
+    ∙ ap (λ (z : List ℕ). fileText cols es ++ (crlf ++ z)) (row-splits kind c p last fs)
+    ∙ sym (append-assoc (fileText cols es) (crlf ++ upTo (Cost kind)) (decimal c ++ behindCost p last fs))

@@ -8,7 +8,7 @@ use lib.ListN.{length, take, replicate, length-append}
 use lib.Seq.{take-append-seam}
 use Rattle.demand.specs.declared.table.Kind.the-variants.{Task, Handler}
 use Rattle.layout.specs.Inside.Building.{Outcome, none, some, outcome}
-use Rattle.layout.specs.Table.{numbersOf, flatOf, tableOf, ReadSays, OneReading}
+use Rattle.layout.specs.Table.{listOf, flatMost, flatOf, tableOf, ReadSays, OneReading}
 use Rattle.layout.specs.declared.reader.Flat.{Flat}
 use Rattle.layout.specs.declared.reader.Table.{Table}
 use Rattle.layout.proofs.Inside.Builds.{tableFor}
@@ -37,7 +37,7 @@ abbrev pub listed : Flat → List ℕ
 listed f = take (f .len) (f .numbers)
 
 pub flat-listed : (s : List ℕ) → listed (flatOf s) ≡ s
-flat-listed s = take-append-seam s (replicate (1224 - length s) 0)
+flat-listed s = take-append-seam s (replicate (flatMost - length s) 0)
 
 -- What lending the numbers in it asks.
 abbrev Counted : Flat → Type 0
@@ -51,5 +51,5 @@ BothCounted t = Counted (t .tasks) × Counted (t .handlers)
 
 pub read-counted : (bs : List ℕ) (t : Table) → ReadSays bs t → BothCounted t
 unfolding ReadSays
-read-counted bs t (inl r) = subst BothCounted (sym (r .2)) (flat-counted (numbersOf Task (r .0)), flat-counted (numbersOf Handler (r .0)))
+read-counted bs t (inl r) = subst BothCounted (sym (r .2)) (flat-counted (listOf Task (r .0)), flat-counted (listOf Handler (r .0)))
 read-counted bs t (inr r) = subst BothCounted (sym (r .1)) (flat-counted [], flat-counted [])

@@ -1,7 +1,8 @@
 -- What a file's rows come to as the two lists of a table (01, "Tables and figures"; 02, M-101).
 --   deadlineOf p last   == the deadline of a task of period p: the number in its last field, or else its period
---   numbersOf kind es   == the flat list of the rows of this kind, in their order: cost, period and, for a task, deadline
---   flatMost            == the most numbers of a list: 408 rows of three
+--   entryNumbers kind e == the numbers of the row e where it is of this kind: cost, period and, for a task, deadline
+--   listOf kind es      == the flat list of the rows of this kind, in their order
+--   flatMost            == the most numbers of a list: three for a row
 --   flatOf s            == the list s with zeros behind, up to that many places, and its length
 --   misplaced es        == some handler of es has a deadline
 --   tableOf es          == the table of the rows es
@@ -12,9 +13,9 @@ use mathlib.Core.Bool.{Bool, true, false, _||_}
 use mathlib.Core.List.{List, [], _∷_, _++_}
 use mathlib.Core.Logic.{_⊎_}
 use mathlib.Core.Path.{_≡_}
-use Prim.Native.Nat.{ℕ, _-_}
+use Prim.Native.Nat.{ℕ, _-_, _*_}
 use lib.ListN.{length, replicate}
-use Rattle.layout.specs.File.{Entry, entry, FileSays, SaysNothing}
+use Rattle.layout.specs.File.{Entry, entry, rowsMost, FileSays, SaysNothing}
 use Rattle.demand.specs.declared.table.Kind.{Kind}
 use Rattle.demand.specs.declared.table.Kind.the-variants.{Task, Handler}
 use Rattle.layout.specs.declared.steps.Last.{Last}
@@ -27,16 +28,15 @@ deadlineOf p NoField = p
 deadlineOf p Empty = p
 deadlineOf p (Number d) = d
 
--- the numbers of a row where it is of this kind
-abbrev pub rowOf : Kind → Entry → List ℕ
-rowOf Task (entry Task c p last) = c ∷ p ∷ deadlineOf p last ∷ []
-rowOf Task (entry Handler c p last) = []
-rowOf Handler (entry Task c p last) = []
-rowOf Handler (entry Handler c p last) = c ∷ p ∷ []
+abbrev pub entryNumbers : Kind → Entry → List ℕ
+entryNumbers Task (entry Task c p last) = c ∷ p ∷ deadlineOf p last ∷ []
+entryNumbers Task (entry Handler c p last) = []
+entryNumbers Handler (entry Task c p last) = []
+entryNumbers Handler (entry Handler c p last) = c ∷ p ∷ []
 
-abbrev pub numbersOf : Kind → List Entry → List ℕ
-numbersOf kind [] = []
-numbersOf kind (e ∷ es) = rowOf kind e ++ numbersOf kind es
+abbrev pub listOf : Kind → List Entry → List ℕ
+listOf kind [] = []
+listOf kind (e ∷ es) = entryNumbers kind e ++ listOf kind es
 
 abbrev pub isNumber : Last → Bool
 isNumber NoField = false
@@ -52,13 +52,13 @@ misplaced [] = false
 misplaced (e ∷ es) = misplacedIn e || misplaced es
 
 abbrev pub flatMost : ℕ
-flatMost = 1224
+flatMost = 3 * rowsMost
 
 abbrev pub flatOf : List ℕ → Flat
 flatOf s = record { numbers = s ++ replicate (flatMost - length s) 0; len = length s }
 
 abbrev pub tableOf : List Entry → Table
-tableOf es = record { ok = true; misplaced = misplaced es; tasks = flatOf (numbersOf Task es); handlers = flatOf (numbersOf Handler es) }
+tableOf es = record { ok = true; misplaced = misplaced es; tasks = flatOf (listOf Task es); handlers = flatOf (listOf Handler es) }
 
 abbrev pub bareTable : Bool → Table
 bareTable ok = record { ok = ok; misplaced = false; tasks = flatOf []; handlers = flatOf [] }

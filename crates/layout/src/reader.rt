@@ -1,7 +1,7 @@
 // The file reader: bytes in, a table out, or the word that the file breaks the layout.
 ghost use mathlib.Core.Path.{_≡_};
 ghost use Prim.Native.Nat.{_<_};
-ghost use Rattle.layout.specs.Inside.Building.{Room, longer, pushed, fed, closed};
+ghost use Rattle.layout.specs.Inside.Building.{Room, longer, pushed, fed, tableAtEnd};
 ghost use Rattle.layout.specs.File.{entry};
 ghost use Rattle.layout.specs.Inside.Steps.{columnsOf};
 ghost use Rattle.layout.specs.Table.{deadlineOf, isNumber, flatMost, bareTable, ReadSays};
@@ -13,14 +13,17 @@ use crate::words::Columns;
 use demand::table::Kind;
 
 // The most bytes of a file.
-const FILE_MOST: usize = 4096;
+pub const FILE_MOST: usize = 4096;
 
-// 4,096 bytes hold the header's 16 and at most 408 rows of 10 or more, as "task,1,1" and its CRLF: 1,224 numbers.
-const MOST: usize = 1224;
+// The most rows of a file: 4,096 bytes hold the header's 16, and rows of 10 or more, as "task,1,1" and its CRLF.
+const ROWS_MOST: usize = 408;
+
+// The most numbers of a list: three for a row.
+const FLAT_MOST: usize = 3 * ROWS_MOST;
 
 // A flat list of rows, two or three numbers each, and zeros behind.
 pub struct Flat {
-    pub numbers: [u32; MOST],
+    pub numbers: [u32; FLAT_MOST],
     pub len: usize,
 }
 
@@ -40,11 +43,11 @@ fn bare(ok: bool) -> Table
         ok,
         misplaced: false,
         tasks: Flat {
-            numbers: [0; MOST],
+            numbers: [0; FLAT_MOST],
             len: 0,
         },
         handlers: Flat {
-            numbers: [0; MOST],
+            numbers: [0; FLAT_MOST],
             len: 0,
         },
     }
@@ -126,7 +129,7 @@ fn feed(t: Table, st: State, b: u8) -> Table
 // The table at the end of the file: a last line that lacks its CRLF is read as if it had it.
 fn close(columns: Columns, t: Table, st: State) -> Table
     requires { ⌜ Room t ⌝ }
-    ensures { λ r. ⌜ r ≡ closed columns t st ⌝ }
+    ensures { λ r. ⌜ r ≡ tableAtEnd columns t st ⌝ }
 {
     let cr = steps::step(columns, st, b'\r');
     let lf = steps::step(columns, cr, b'\n');

@@ -1,6 +1,6 @@
 // The layout of a file, byte by byte: where a reader stands, and where the next byte takes it.
 ghost use mathlib.Core.Path.{_≡_};
-ghost use Rattle.layout.specs.Inside.Steps.{behindPeriod, afterPeriod, behind, after, emptyLast, emptied, stepOf, Leads, isStart};
+ghost use Rattle.layout.specs.Inside.Steps.{behindPeriod, afterPeriod, behind, after, emptyLast, emptied, afterByte, Leads, isStart};
 use crate::words;
 use crate::words::Columns;
 use demand::table::Kind;
@@ -47,7 +47,7 @@ pub enum State {
 }
 
 fn in_head(columns: Columns, k: usize, b: u8) -> State
-    ensures { λ r. ⌜ r ≡ stepOf columns (State.Head k) b ⌝ }
+    ensures { λ r. ⌜ r ≡ afterByte columns (State.Head k) b ⌝ }
 {
     if k < words::header_len(columns) {
         if b == words::header_byte(columns, k) {
@@ -175,7 +175,7 @@ fn in_first(place: Place, b: u8) -> State
 }
 
 fn in_digits(columns: Columns, place: Place, v: u32, b: u8) -> State
-    ensures { λ r. ⌜ r ≡ stepOf columns (State.Digits place v) b ⌝ }
+    ensures { λ r. ⌜ r ≡ afterByte columns (State.Digits place v) b ⌝ }
 {
     let so_far = v as u64;
     if b == behind(columns, place) {
@@ -189,7 +189,7 @@ fn in_digits(columns: Columns, place: Place, v: u32, b: u8) -> State
 
 // Where the byte b takes a reader that stands at st.
 pub fn step(columns: Columns, st: State, b: u8) -> State
-    ensures { λ r. ⌜ r ≡ stepOf columns st b ⌝ }
+    ensures { λ r. ⌜ r ≡ afterByte columns st b ⌝ }
 {
     match st {
         State::Broken => State::Broken,

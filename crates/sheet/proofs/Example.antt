@@ -6,7 +6,7 @@ use mathlib.Core.Path.{_≡_, refl, _∙_}
 use native.Mathlib.Omega.{arith}
 use Prim.Native.Nat.{ℕ}
 use Rattle.sheet.specs.Example.{caseNine, caseNineFour, caseNineSheet, Prints, CaseNinePrints}
-use Rattle.layout.specs.File.{Entry, entry, text, FileSays}
+use Rattle.layout.specs.File.{Entry, entry, FileSays}
 use Rattle.text.specs.Numbers.{decimal}
 use Rattle.sheet.specs.Printed.{lines, printed}
 use Rattle.text.specs.Text.{textOf}

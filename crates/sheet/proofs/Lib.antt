@@ -1,3 +1,3 @@
-pub mod Lines
+pub mod Printed
 pub mod Whole
 pub mod Example

@@ -10,7 +10,7 @@ use Rattle.demand.specs.Refusals.{tableRefusal}
 use Rattle.demand.specs.Tests.{pick}
 use Rattle.layout.specs.File.{Entry}
 use Rattle.sheet.specs.Printed.{printed}
-use Rattle.layout.specs.Table.{numbersOf, misplaced, ReadSays}
+use Rattle.layout.specs.Table.{listOf, misplaced, ReadSays}
 use Rattle.text.specs.Text.{Fits}
 use Rattle.sheet.specs.Whole.{refusedBy, misplacedRefusal, TableFigures, FileFigures, outputOf, SheetSays, OneSheet}
 use Rattle.sheet.specs.declared.Output.{Output}
@@ -42,11 +42,11 @@ module _ (bs : List ℕ) (t : Table) (out : Output) where
   unfolding ReadSays
   table-sheet (inl r) ok a says e =
       let deadline : t .misplaced ≡ misplaced (r .0) = ap (λ (x : Table). x .misplaced) (r .2) in
-      let tasks : listed (t .tasks) ≡ numbersOf Task (r .0) = ap (λ (x : Table). listed (x .tasks)) (r .2) ∙ flat-listed (numbersOf Task (r .0)) in
-      let handlers : listed (t .handlers) ≡ numbersOf Handler (r .0) = ap (λ (x : Table). listed (x .handlers)) (r .2) ∙ flat-listed (numbersOf Handler (r .0)) in
-      let told : TableFigures (misplaced (r .0)) (numbersOf Task (r .0)) (numbersOf Handler (r .0)) (figures a) =
-      subst (λ (m : Bool). TableFigures m (numbersOf Task (r .0)) (numbersOf Handler (r .0)) (figures a)) deadline
-      (subst (λ (s : List ℕ). TableFigures (t .misplaced) (numbersOf Task (r .0)) s (figures a)) handlers
+      let tasks : listed (t .tasks) ≡ listOf Task (r .0) = ap (λ (x : Table). listed (x .tasks)) (r .2) ∙ flat-listed (listOf Task (r .0)) in
+      let handlers : listed (t .handlers) ≡ listOf Handler (r .0) = ap (λ (x : Table). listed (x .handlers)) (r .2) ∙ flat-listed (listOf Handler (r .0)) in
+      let told : TableFigures (misplaced (r .0)) (listOf Task (r .0)) (listOf Handler (r .0)) (figures a) =
+      subst (λ (m : Bool). TableFigures m (listOf Task (r .0)) (listOf Handler (r .0)) (figures a)) deadline
+      (subst (λ (s : List ℕ). TableFigures (t .misplaced) (listOf Task (r .0)) s (figures a)) handlers
       (subst (λ (s : List ℕ). TableFigures (t .misplaced) s (listed (t .handlers)) (figures a)) tasks says)) in
       record { sheet = figures a; figures = inl (r .0, r .1, told); written = e }
   table-sheet (inr r) ok a says e = clash _ (sym ok ∙ ap (λ (x : Table). x .ok) (r .1))
@@ -83,8 +83,8 @@ table-unique false t h f g a b = verdict.says-unique t h f g a b
 file-unique : (bs : List ℕ) (f g : Figures) → FileFigures bs f → FileFigures bs g → f ≡ g
 file-unique bs f g (inl a) (inl b) =
     let same : b .0 ≡ a .0 = says-unique bs (b .0) (a .0) (b .1) (a .1) in
-    table-unique (misplaced (a .0)) (numbersOf Task (a .0)) (numbersOf Handler (a .0)) f g (a .2)
-    (subst (λ (es : List Entry). TableFigures (misplaced es) (numbersOf Task es) (numbersOf Handler es) g) same (b .2))
+    table-unique (misplaced (a .0)) (listOf Task (a .0)) (listOf Handler (a .0)) f g (a .2)
+    (subst (λ (es : List Entry). TableFigures (misplaced es) (listOf Task es) (listOf Handler es) g) same (b .2))
 file-unique bs f g (inl a) (inr b) = absurd (b .0 (a .0) (a .1))
 file-unique bs f g (inr a) (inl b) = absurd (a .0 (b .0) (b .1))
 file-unique bs f g (inr a) (inr b) = a .1 ∙ sym (b .1)

@@ -13,10 +13,18 @@ use Rattle.sheet.specs.Whole.{SheetSays}
 use Rattle.sheet.specs.declared.Output.{Output}
 
 abbrev pub caseNine : List ℕ
-caseNine = ascii "kind,cost,period" ++ crlf ++ ascii "task,2,5" ++ crlf ++ ascii "task,4,8" ++ crlf ++ ascii "handler,1,4" ++ crlf
+caseNine =
+    ascii "kind,cost,period" ++ crlf
+    ++ ascii "task,2,5" ++ crlf
+    ++ ascii "task,4,8" ++ crlf
+    ++ ascii "handler,1,4" ++ crlf
 
 abbrev pub caseNineFour : List ℕ
-caseNineFour = ascii "kind,cost,period,deadline" ++ crlf ++ ascii "task,2,5,5" ++ crlf ++ ascii "task,4,8,8" ++ crlf ++ ascii "handler,1,4," ++ crlf
+caseNineFour =
+    ascii "kind,cost,period,deadline" ++ crlf
+    ++ ascii "task,2,5,5" ++ crlf
+    ++ ascii "task,4,8,8" ++ crlf
+    ++ ascii "handler,1,4," ++ crlf
 
 abbrev pub caseNineSheet : List ℕ
 caseNineSheet = ascii "verdict,code,interval,handler,task,load" ++ crlf ++ ascii "misses,0,10,3,8,1150000" ++ crlf

@@ -17,7 +17,7 @@ use Rattle.demand.specs.Refusals.{tableRefusal}
 use Rattle.demand.specs.Tests.{pick}
 use Rattle.layout.specs.File.{Entry, FileSays, SaysNothing}
 use Rattle.sheet.specs.Printed.{printed}
-use Rattle.layout.specs.Table.{numbersOf, misplaced}
+use Rattle.layout.specs.Table.{listOf, misplaced}
 use Rattle.text.specs.Text.{textOf}
 use Rattle.sheet.specs.declared.Output.{Output}
 use Rattle.demand.specs.declared.table.Kind.the-variants.{Task, Handler}
@@ -37,7 +37,7 @@ TableFigures false t h g = Says t h g
 
 abbrev pub FileFigures : List ℕ → Figures → Type 0
 FileFigures bs g =
-    ((es : List Entry) × FileSays bs es × TableFigures (misplaced es) (numbersOf Task es) (numbersOf Handler es) g)
+    ((es : List Entry) × FileSays bs es × TableFigures (misplaced es) (listOf Task es) (listOf Handler es) g)
     ⊎ (SaysNothing bs × (g ≡ refusedBy 12))
 
 abbrev pub outputOf : Figures → Output

@@ -1,5 +1,5 @@
 // The sheet of a file: a table in, two printed lines out.
-pub mod printed;
+pub mod lines;
 
 ghost use mathlib.Core.Path.{_≡_};
 ghost use Rattle.verdict.specs.Promise.{figures};
@@ -52,7 +52,7 @@ fn answer(misplaced: bool, tasks: &[u32], handlers: &[u32]) -> Answer
 fn written(answer: Answer) -> Output
     ensures { λ r. ⌜ r ≡ outputOf (figures answer) ⌝ }
 {
-    let text = printed::of_answer(answer);
+    let text = lines::of_answer(answer);
     let refusal = refusal_of(answer);
     Output { text, refusal }
 }

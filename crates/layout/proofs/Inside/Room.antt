@@ -7,10 +7,10 @@ use lib.Dec.{eqb}
 use lib.ListN.{length, length-append}
 use Rattle.demand.specs.Tests.{pick}
 use Rattle.text.specs.Ascii.{crlf}
-use Rattle.layout.specs.Inside.Building.{Run, done, added, next, runFrom, run, Room}
-use Rattle.layout.specs.File.{Entry, entry, headerOf, nameOf, lastText, entryText, body, text}
+use Rattle.layout.specs.Inside.Building.{Reading, done, added, next, readFrom, readOver, Room}
+use Rattle.layout.specs.File.{rowsMost, Entry, entry, headerOf, nameOf, lastText, entryText, body, fileText}
 use Rattle.text.specs.Numbers.{field}
-use Rattle.layout.specs.Table.{rowOf, numbersOf, tableOf}
+use Rattle.layout.specs.Table.{entryNumbers, listOf, tableOf}
 use Rattle.layout.specs.declared.words.Columns.{Columns}
 use Rattle.layout.specs.declared.words.Columns.the-variants.{Three, Four}
 use Rattle.demand.specs.declared.table.Kind.{Kind}
@@ -22,9 +22,15 @@ use Rattle.text.proofs.Numbers.{decimal-least}
 use Rattle.text.proofs.Tests.{by}
 use Rattle.layout.proofs.Inside.Standing.{Holds, step-keeps, holds-first}
 
--- ---- a row's line has 10 bytes at least
+-- ---- the least bytes of a header, and of a row's line
 
-header-least : (cols : Columns) → 16 ≤ length (headerOf cols)
+abbrev pub headerLeast : ℕ
+headerLeast = 16
+
+abbrev pub lineLeast : ℕ
+lineLeast = 10
+
+header-least : (cols : Columns) → headerLeast ≤ length (headerOf cols)
 header-least Three = omega arith
 header-least Four = omega arith
 
@@ -32,7 +38,7 @@ name-least : (kind : Kind) → 4 ≤ length (nameOf kind)
 name-least Task = omega arith
 name-least Handler = omega arith
 
-entry-least : (e : Entry) → 8 ≤ length (entryText e)
+entry-least : (e : Entry) → lineLeast ≤ 2 + length (entryText e)
 entry-least (entry kind c p last) =
     omega (
       arith,
@@ -44,32 +50,32 @@ entry-least (entry kind c p last) =
       decimal-least p,
     )
 
-body-least : (es : List Entry) → length es * 10 ≤ length (body es)
+body-least : (es : List Entry) → length es * lineLeast ≤ length (body es)
 body-least [] = omega arith
 body-least (e ∷ es) = omega (arith, length-append (entryText e) (body es), entry-least e, body-least es)
 
-pub text-least : (cols : Columns) (es : List Entry) → 16 + length es * 10 ≤ length (text cols es)
-text-least cols es = omega (arith, length-append (headerOf cols) (body es), header-least cols, body-least es)
+pub file-text-least : (cols : Columns) (es : List Entry) → headerLeast + length es * lineLeast ≤ length (fileText cols es)
+file-text-least cols es = omega (arith, length-append (headerOf cols) (body es), header-least cols, body-least es)
 
 -- ---- and so while it is read: a row read whole has its own line end too
 
 abbrev Roomy : List Entry → List ℕ → Type 0
-Roomy es l = length es * 10 ≤ length l - 18
+Roomy es l = length es * lineLeast ≤ length l - (headerLeast + 2)
 
-row-least : (cols : Columns) (kind : Kind) (c p : ℕ) (last : Last) (es : List Entry) (l : List ℕ) → Holds cols (RowCr kind c p last) es l → (length es + 1) * 10 ≤ length l + 1 - 18
+row-least : (cols : Columns) (kind : Kind) (c p : ℕ) (last : Last) (es : List Entry) (l : List ℕ) → Holds cols (RowCr kind c p last) es l → (length es + 1) * lineLeast ≤ length l + 1 - (headerLeast + 2)
 unfolding Holds
 row-least cols kind c p last es l h =
     omega (
       arith,
       ap length (h .2),
-      length-append (text cols es) (crlf ++ (entryText (entry kind c p last) ++ (13 ∷ []))),
+      length-append (fileText cols es) (crlf ++ (entryText (entry kind c p last) ++ (13 ∷ []))),
       length-append (entryText (entry kind c p last)) (13 ∷ []),
       entry-least (entry kind c p last),
-      text-least cols es,
+      file-text-least cols es,
     )
 
 -- With the row that is done at st.
-roomy-done : (cols : Columns) (st : State) (es : List Entry) (l : List ℕ) → Holds cols st es l → Roomy es l → (length es + length (done st)) * 10 ≤ length l + 1 - 18
+roomy-done : (cols : Columns) (st : State) (es : List Entry) (l : List ℕ) → Holds cols st es l → Roomy es l → (length es + length (done st)) * lineLeast ≤ length l + 1 - (headerLeast + 2)
 roomy-done cols Broken es l h m = omega arith
 roomy-done cols (Head k) es l h m = omega arith
 roomy-done cols HeadCr es l h m = omega arith
@@ -85,31 +91,31 @@ roomy-step cols st es l b h m =
     (λ e. omega (arith, length-append es (done st), length-append l (b ∷ []), roomy-done cols st es l h m))
     (λ e. rw append-nil (omega (arith, length-append l (b ∷ []))))
 
-roomy-from : (cols : Columns) (w : Run) (l bs : List ℕ) → Holds cols (w .st) (w .rows) l → Roomy (w .rows) l → Roomy (runFrom cols w bs .rows) (l ++ bs)
+roomy-from : (cols : Columns) (w : Reading) (l bs : List ℕ) → Holds cols (w .st) (w .rows) l → Roomy (w .rows) l → Roomy (readFrom cols w bs .rows) (l ++ bs)
 roomy-from cols w l [] h m = rw append-nil m
 roomy-from cols w l (b ∷ bs) h m =
     rw append-assoc at
     (roomy-from cols (next cols w b) (l ++ (b ∷ [])) bs (step-keeps cols (w .st) (w .rows) l b h) (roomy-step cols (w .st) (w .rows) l b h m))
 
-pub run-most : (cols : Columns) (bs : List ℕ) → length (run cols bs .rows) * 10 ≤ length bs - 18
-run-most cols bs = roomy-from cols (record { st = Head 0; rows = [] }) [] bs (holds-first cols) (omega arith)
+pub read-most : (cols : Columns) (bs : List ℕ) → length (readOver cols bs .rows) * lineLeast ≤ length bs - (headerLeast + 2)
+read-most cols bs = roomy-from cols (record { st = Head 0; rows = [] }) [] bs (holds-first cols) (omega arith)
 
 -- ---- three numbers at most for each row
 
-row-most : (e : Entry) → length (rowOf Task e) + length (rowOf Handler e) ≤ 3
-row-most (entry Task c p last) = omega arith
-row-most (entry Handler c p last) = omega arith
+entry-most : (e : Entry) → length (entryNumbers Task e) + length (entryNumbers Handler e) ≤ 3
+entry-most (entry Task c p last) = omega arith
+entry-most (entry Handler c p last) = omega arith
 
-pub numbers-most : (es : List Entry) → length (numbersOf Task es) + length (numbersOf Handler es) ≤ 3 * length es
-numbers-most [] = omega arith
-numbers-most (e ∷ es) =
+pub lists-most : (es : List Entry) → length (listOf Task es) + length (listOf Handler es) ≤ 3 * length es
+lists-most [] = omega arith
+lists-most (e ∷ es) =
     omega (
       arith,
-      length-append (rowOf Task e) (numbersOf Task es),
-      length-append (rowOf Handler e) (numbersOf Handler es),
-      row-most e,
-      numbers-most es,
+      length-append (entryNumbers Task e) (listOf Task es),
+      length-append (entryNumbers Handler e) (listOf Handler es),
+      entry-most e,
+      lists-most es,
     )
 
-pub room : (es : List Entry) → length es < 408 → Room (tableOf es)
-room es h = omega (arith, numbers-most es)
+pub room : (es : List Entry) → length es < rowsMost → Room (tableOf es)
+room es h = omega (arith, lists-most es)

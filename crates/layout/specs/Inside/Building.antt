@@ -6,10 +6,11 @@
 --   done st              == the row whose CR was read last, where st is behind one
 --   added st b           == the row that the byte b ends, read at st
 --   fed t st b           == t after the byte b, read at st: a row more where b ends one
---   closed cols t st     == what t comes to where the file ends at st: the last line may lack its CRLF
---   Run                  == where the reader stands, and the rows that it has read whole
---   run cols bs          == the run over the bytes bs
---   ended cols w         == the rows of a file that ends at the run w, or nothing
+--   tableAtEnd cols t st == what t comes to where the file ends at st: the last line may lack its CRLF
+--   Reading              == where the reader stands, and the rows that it has read whole
+--   readFrom cols w bs   == the reading w with the bytes bs more; next with one
+--   readOver cols bs     == the reading over the bytes bs
+--   rowsAtEnd cols w     == the rows of a file that ends at the reading w, or nothing
 --   outcome bs           == the rows of the file bs, or nothing
 use mathlib.Core.Bool.{_||_}
 use mathlib.Core.List.{List, [], _∷_, _++_}
@@ -19,8 +20,8 @@ use lib.ListN.{length, set}
 use Rattle.demand.specs.Tests.{pick}
 use Rattle.text.specs.Ascii.{crlf}
 use Rattle.layout.specs.File.{Entry, entry, fileMost}
-use Rattle.layout.specs.Inside.Steps.{stepOf, isStart, columnsOf}
-use Rattle.layout.specs.Table.{rowOf, misplacedIn, flatMost, brokenTable}
+use Rattle.layout.specs.Inside.Steps.{afterByte, isStart, columnsOf}
+use Rattle.layout.specs.Table.{entryNumbers, misplacedIn, flatMost, brokenTable}
 use Rattle.layout.specs.declared.words.Columns.{Columns}
 use Rattle.demand.specs.declared.table.Kind.the-variants.{Task, Handler}
 use Rattle.layout.specs.declared.steps.State.{State}
@@ -43,8 +44,8 @@ pushed t e =
     record {
       ok = t .ok;
       misplaced = misplacedIn e || t .misplaced;
-      tasks = longerBy (t .tasks) (rowOf Task e);
-      handlers = longerBy (t .handlers) (rowOf Handler e);
+      tasks = longerBy (t .tasks) (entryNumbers Task e);
+      handlers = longerBy (t .handlers) (entryNumbers Handler e);
     }
 
 abbrev pub done : State → List Entry
@@ -67,33 +68,33 @@ grown t (e ∷ es) = grown (pushed t e) es
 abbrev pub fed : Table → State → ℕ → Table
 fed t st b = grown t (added st b)
 
-abbrev pub closed : Columns → Table → State → Table
-closed cols t st =
-    pick (isStart (stepOf cols (stepOf cols st 13) 10)) (fed t (stepOf cols st 13) 10)
+abbrev pub tableAtEnd : Columns → Table → State → Table
+tableAtEnd cols t st =
+    pick (isStart (afterByte cols (afterByte cols st 13) 10)) (fed t (afterByte cols st 13) 10)
     (pick (isStart st) t brokenTable)
 
-pub record Run : Type 0 where
+pub record Reading : Type 0 where
   pub st : State
   pub rows : List Entry
 
-abbrev pub next : Columns → Run → ℕ → Run
-next cols w b = record { st = stepOf cols (w .st) b; rows = w .rows ++ added (w .st) b }
+abbrev pub next : Columns → Reading → ℕ → Reading
+next cols w b = record { st = afterByte cols (w .st) b; rows = w .rows ++ added (w .st) b }
 
-abbrev pub runFrom : Columns → Run → List ℕ → Run
-runFrom cols w [] = w
-runFrom cols w (b ∷ bs) = runFrom cols (next cols w b) bs
+abbrev pub readFrom : Columns → Reading → List ℕ → Reading
+readFrom cols w [] = w
+readFrom cols w (b ∷ bs) = readFrom cols (next cols w b) bs
 
-abbrev pub run : Columns → List ℕ → Run
-run cols bs = runFrom cols (record { st = Head 0; rows = [] }) bs
+abbrev pub readOver : Columns → List ℕ → Reading
+readOver cols bs = readFrom cols (record { st = Head 0; rows = [] }) bs
 
 pub data Outcome : Type 0 where
   none : Outcome
   some : List Entry → Outcome
 
-abbrev pub ended : Columns → Run → Outcome
-ended cols w =
-    pick (isStart (runFrom cols w crlf .st)) (some (runFrom cols w crlf .rows))
+abbrev pub rowsAtEnd : Columns → Reading → Outcome
+rowsAtEnd cols w =
+    pick (isStart (readFrom cols w crlf .st)) (some (readFrom cols w crlf .rows))
     (pick (isStart (w .st)) (some (w .rows)) none)
 
 abbrev pub outcome : List ℕ → Outcome
-outcome bs = pick (ltb fileMost (length bs)) none (ended (columnsOf bs) (run (columnsOf bs) bs))
+outcome bs = pick (ltb fileMost (length bs)) none (rowsAtEnd (columnsOf bs) (readOver (columnsOf bs) bs))

@@ -4,10 +4,10 @@
 --   behind cols place   == the byte that ends this number: the CR of its row's end, or a comma before the next field
 --   after cols place v  == where that byte takes a reader that has read v
 --   emptied place       == where a CR takes a reader that has read no digit: a handler's deadline alone may be left out
---   stepOf cols st b    == where the byte b takes a reader that stands at st
+--   afterByte cols st b    == where the byte b takes a reader that stands at st
 --   Leads st b r        the byte b takes a reader that stands at st to r under either header
 --   isStart st          == st is the start of a row's line
---   columnsOf bs        == the columns of the file bs, which its 17th byte tells
+--   columnsOf bs        == the columns of the file bs, which the byte behind `kind,cost,period` tells
 use mathlib.Core.Bool.{Bool, true, false}
 use mathlib.Core.List.{List, [], _∷_, _++_}
 use mathlib.Core.Path.{_≡_}
@@ -64,23 +64,23 @@ emptied (Cost kind) = Broken
 emptied (Period kind c) = Broken
 emptied (Deadline kind c p) = emptyLast kind c p
 
-abbrev pub stepOf : Columns → State → ℕ → State
-stepOf cols Broken b = Broken
-stepOf cols (Head k) b =
+abbrev pub afterByte : Columns → State → ℕ → State
+afterByte cols Broken b = Broken
+afterByte cols (Head k) b =
     pick (ltb k (length (headerOf cols))) (orBroken (eqb b (getD (headerOf cols) k 0)) (Head (k + 1))) (orBroken (eqb b 13) HeadCr)
-stepOf cols HeadCr b = orBroken (eqb b 10) Start
-stepOf cols Start b = pick (eqb b 116) (Name Task 1) (orBroken (eqb b 104) (Name Handler 1))
-stepOf cols (Name kind k) b =
+afterByte cols HeadCr b = orBroken (eqb b 10) Start
+afterByte cols Start b = pick (eqb b 116) (Name Task 1) (orBroken (eqb b 104) (Name Handler 1))
+afterByte cols (Name kind k) b =
     pick (ltb k (length (nameOf kind)))
     (orBroken (eqb b (getD (nameOf kind) k 0)) (Name kind (k + 1)))
     (orBroken (eqb b comma) (First (Cost kind)))
-stepOf cols (First place) b = pick (eqb b 13) (emptied place) (orBroken (isDigit b) (Digits place (b - 48)))
-stepOf cols (Digits place v) b =
+afterByte cols (First place) b = pick (eqb b 13) (emptied place) (orBroken (isDigit b) (Digits place (b - 48)))
+afterByte cols (Digits place v) b =
     pick (eqb b (behind cols place)) (after cols place v) (orBroken (continues (10 ^ digitsMost) v b) (Digits place (v * 10 + (b - 48))))
-stepOf cols (RowCr kind c p last) b = orBroken (eqb b 10) Start
+afterByte cols (RowCr kind c p last) b = orBroken (eqb b 10) Start
 
 abbrev pub Leads : State → ℕ → State → Type 0
-Leads st b r = (cols : Columns) → r ≡ stepOf cols st b
+Leads st b r = (cols : Columns) → r ≡ afterByte cols st b
 
 abbrev pub isStart : State → Bool
 isStart Start = true
@@ -94,4 +94,4 @@ isStart (RowCr kind c p last) = false
 
 -- behind `kind,cost,period` a header of four columns goes on with a comma
 abbrev pub columnsOf : List ℕ → Columns
-columnsOf bs = pick (eqb (getD bs 16 0) comma) Four Three
+columnsOf bs = pick (eqb (getD bs (length (headerOf Three)) 0) comma) Four Three

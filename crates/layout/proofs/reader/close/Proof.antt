@@ -2,7 +2,7 @@ use mathlib.Core.Bool.{Bool}
 use mathlib.Core.Path.{sym, ap, _∙_}
 use Rattle.demand.specs.Tests.{pick}
 use Rattle.layout.specs.Table.{brokenTable}
-use Rattle.layout.proofs.Inside.Builds.{closed-short, closed-full}
+use Rattle.layout.proofs.Inside.Builds.{table-at-end-short, table-at-end-full}
 use borrow.Author.Needs.{needs}
 use Rattle.layout.proofs.reader.close.Statement.{statement}
 use Rattle.layout.proofs.reader.close.Tie as tie
@@ -28,19 +28,19 @@ bare-requires c κs = search needs
 returns : tie.Need-returns
 returns c =
     let start = c .before .before .before .before .before .args in
-    closed-short (start .columns) (start .t) _ (start .st) _ _ (c .before .before .before .before .step .ensures) (c .before .before .before .step2 .ensures) (sym (c .before .before .is-start .ensures) ∙ c .before .if1 .taken) (c .feed .ensures)
+    table-at-end-short (start .columns) (start .t) _ (start .st) _ _ (c .before .before .before .before .step .ensures) (c .before .before .before .step2 .ensures) (sym (c .before .before .is-start .ensures) ∙ c .before .if1 .taken) (c .feed .ensures)
 
 returns-2 : tie.Need-returns-2
 returns-2 c =
     let start = c .before .before .before .before .before .before .args in
-    closed-full (start .columns) (start .t) _ (start .st) _ _ (c .before .before .before .before .before .step .ensures) (c .before .before .before .before .step2 .ensures)
+    table-at-end-full (start .columns) (start .t) _ (start .st) _ _ (c .before .before .before .before .before .step .ensures) (c .before .before .before .before .step2 .ensures)
     (sym (c .before .before .before .is-start .ensures) ∙ c .before .before .if1 .left)
     (sym (ap (λ (b : Bool). pick b (start .t) brokenTable) (sym (c .before .is-start2 .ensures) ∙ c .if2 .taken)))
 
 returns-3 : tie.Need-returns-3
 returns-3 c =
     let start = c .before .before .before .before .before .before .before .args in
-    closed-full (start .columns) (start .t) _ (start .st) _ _ (c .before .before .before .before .before .before .step .ensures) (c .before .before .before .before .before .step2 .ensures)
+    table-at-end-full (start .columns) (start .t) _ (start .st) _ _ (c .before .before .before .before .before .before .step .ensures) (c .before .before .before .before .before .step2 .ensures)
     (sym (c .before .before .before .before .is-start .ensures) ∙ c .before .before .before .if1 .left)
     (c .bare .ensures ∙ sym (ap (λ (b : Bool). pick b (start .t) brokenTable) (sym (c .before .before .is-start2 .ensures) ∙ c .before .if2 .left)))
 

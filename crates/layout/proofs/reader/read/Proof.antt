@@ -3,8 +3,9 @@ use native.Mathlib.Omega.{arith}
 use Prim.Native.Nat.{_-_, _≤_}
 use borrow.Author.Needs.{needs}
 use lib.ListN.{length, take}
-use Rattle.layout.specs.Inside.Building.{run}
+use Rattle.layout.specs.Inside.Building.{readOver}
 use Rattle.layout.specs.Inside.Steps.{columnsOf}
+use Rattle.layout.specs.File.{fileMost}
 use Rattle.layout.specs.Table.{tableOf}
 use Rattle.layout.proofs.Table.{read-says}
 use Rattle.layout.proofs.Inside.Builds.{loop-room, loop-state, loop-table, loop-ends, over-long}
@@ -13,7 +14,7 @@ use Rattle.layout.proofs.reader.read.Tie as tie
 
 abbrev Inv-loop : tie.InvT-loop
 Inv-loop bytes columns t₀ st₀ i₀ t st i =
-    (i ≤ length bytes) × (length bytes ≤ 4096) × (st ≡ run columns (take i bytes) .st) × (t ≡ tableOf (run columns (take i bytes) .rows)) × (columns ≡ columnsOf bytes)
+    (i ≤ length bytes) × (length bytes ≤ fileMost) × (st ≡ readOver columns (take i bytes) .st) × (t ≡ tableOf (readOver columns (take i bytes) .rows)) × (columns ≡ columnsOf bytes)
 
 abbrev μ-loop : tie.MeasureT-loop
 μ-loop bytes columns t₀ st₀ i₀ t st i = length bytes - i

@@ -1,7 +1,7 @@
 use Rattle.verdict.specs.Promise.{figures}
 use borrow.Author.Needs.{needs}
-use Rattle.sheet.proofs.printed.numbers.Statement.{statement}
-use Rattle.sheet.proofs.printed.numbers.Tie as tie
+use Rattle.sheet.proofs.lines.numbers.Statement.{statement}
+use Rattle.sheet.proofs.lines.numbers.Tie as tie
 
 enum-known-answer : tie.Need-enum-known-answer
 enum-known-answer c = search needs

@@ -4,10 +4,10 @@ use Prim.Native.Nat.{ℕ}
 use Rattle.text.specs.Numbers.{fieldsOf}
 use Rattle.text.specs.Text.{putsOf}
 use Rattle.verdict.specs.Promise.{figures}
-use Rattle.sheet.proofs.Lines.{chained, lines-printed}
+use Rattle.sheet.proofs.Printed.{chained, lines-printed}
 use borrow.Author.Needs.{needs}
-use Rattle.sheet.proofs.printed.of_answer.Statement.{statement}
-use Rattle.sheet.proofs.printed.of_answer.Tie as tie
+use Rattle.sheet.proofs.lines.of_answer.Statement.{statement}
+use Rattle.sheet.proofs.lines.of_answer.Tie as tie
 
 slice-aggregate-of : tie.Need-slice-aggregate-of
 slice-aggregate-of c = search needs

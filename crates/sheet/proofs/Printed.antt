@@ -1,6 +1,6 @@
 -- The two lines of a sheet fit their space, whatever count of numbers up to the most they have, and are written part by part.
 use mathlib.Core.List.{List, _++_, append-assoc}
-use mathlib.Core.Path.{_≡_, refl, sym, ap, _∙_}
+use mathlib.Core.Path.{_≡_, _∙_}
 use native.Mathlib.Omega.{arith}
 use Prim.Native.Nat.{ℕ, _≤_}
 use lib.ListN.{length, length-append}

@@ -1,7 +1,7 @@
 use Rattle.verdict.specs.Promise.{figures}
 use borrow.Author.Needs.{needs}
-use Rattle.sheet.proofs.printed.with_word.Statement.{statement}
-use Rattle.sheet.proofs.printed.with_word.Tie as tie
+use Rattle.sheet.proofs.lines.with_word.Statement.{statement}
+use Rattle.sheet.proofs.lines.with_word.Tie as tie
 
 enum-told : tie.Need-enum-told
 enum-told c = search needs
