@@ -7,6 +7,7 @@ pub mod Walks
 pub mod Lighten
 pub mod Slices
 pub mod Places
+pub mod Chains
 pub mod Refused
 pub mod Sizes
 pub mod Signs

@@ -5,7 +5,9 @@ use mathlib.Core.List.{[], _∷_}
 use mathlib.Core.Path.{_≡_, refl}
 use Prim.Native.Nat.{ℕ, _+_, _*_, _/_, _%_, min}
 use Rattle.demand.specs.Demands.{called, grow, taken, handled, due, margin}
-use Rattle.demand.specs.Rows.{Row, tasksOf, handlersOf, total}
+use Rattle.demand.specs.Refusals.{tableTests, tableRefusal, askedRefusal}
+use Rattle.demand.specs.Rows.{Row, tasksOf, handlersOf, total, some}
+use Rattle.demand.specs.Tests.{firstRefusal}
 
 abbrev formulaTwo : ℕ → Row → ℕ
 formulaTwo l r = r .cost * (l / r .period) + min (r .cost) (l % r .period)
@@ -55,3 +57,13 @@ short-deadline-first = refl
 pub short-deadline-next : due (tasksOf (1 ∷ 4 ∷ 2 ∷ [])) 6 ≡ 2
 unfolding due total tasksOf
 short-deadline-next = refl
+
+-- Of several refusals the first in the order 1, 2, 3, 13, 5: a cost of 0 beside a deadline above its period is 3,
+pub three-before-thirteen : tableRefusal (0 ∷ 4 ∷ 5 ∷ []) [] ≡ 3
+unfolding tableRefusal tableTests firstRefusal some tasksOf handlersOf
+three-before-thirteen = refl
+
+-- and a deadline above its period is 13, whatever interval is asked about.
+pub thirteen-before-five : askedRefusal (1 ∷ 4 ∷ 5 ∷ []) [] 1000000001 ≡ 13
+unfolding askedRefusal tableTests firstRefusal some tasksOf handlersOf
+thirteen-before-five = refl

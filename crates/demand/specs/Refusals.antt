@@ -1,16 +1,16 @@
 -- Refusals 1, 2, 3, 13 and 5 (01, "Numbered refusals"; 02, M-101): the first of them that applies, in this order, 0 where none does.
---   tableThen t h rest   == the number of the table's own refusal, 1, 2, 3 or 13, else rest: what the later tests say
---   tableRefusal t h     == the table's own
+--   tableTests t h       == the tests of a table, each with its number: 1, 2, 3, 13
+--   tableRefusal t h     == the number of the table's own refusal
 --   askedRefusal t h l   == that of a question about the interval of l ticks
 --   InRange ts hs        each figure of the table lies in its range: what no refusal of its own comes to
 use mathlib.Core.Bool.{Bool, _||_}
-use mathlib.Core.List.{List}
+use mathlib.Core.List.{List, [], _∷_, _++_}
 use Prim.Native.Nat.{ℕ, _%_, _≤_}
 use lib.Dec.{eqb, ltb}
 use lib.ListN.{length}
 use Rattle.demand.specs.Limits.{figureMost, tasksMost, handlersMost, ticksMost}
 use Rattle.demand.specs.Rows.{Row, tasksOf, handlersOf, width, some, Each, Valid}
-use Rattle.demand.specs.Tests.{refuse}
+use Rattle.demand.specs.Tests.{firstRefusal}
 use Rattle.demand.specs.declared.table.Kind.{Kind}
 use Rattle.demand.specs.declared.table.Kind.the-variants.{Task, Handler}
 
@@ -33,20 +33,21 @@ rowOutside r = outside (r .cost) || outside (r .period)
 abbrev pub deadlineOutside : Row → Bool
 deadlineOutside r = eqb (r .deadline) 0 || ltb (r .period) (r .deadline)
 
-unfoldable pub tableThen : List ℕ → List ℕ → ℕ → ℕ
-tableThen t h rest =
-    refuse 1 (uneven Task t || uneven Handler h)
-    (refuse 2 (miscounted (tasksOf t) (handlersOf h))
-    (refuse 3 (some rowOutside (tasksOf t) || some rowOutside (handlersOf h))
-    (refuse 13 (some deadlineOutside (tasksOf t))
-    rest)))
+-- 13 comes after 3, and what is asked about the table after both
+unfoldable pub tableTests : List ℕ → List ℕ → List (ℕ × Bool)
+tableTests t h =
+    (1, uneven Task t || uneven Handler h)
+    ∷ (2, miscounted (tasksOf t) (handlersOf h))
+    ∷ (3, some rowOutside (tasksOf t) || some rowOutside (handlersOf h))
+    ∷ (13, some deadlineOutside (tasksOf t))
+    ∷ []
 
 unfoldable pub tableRefusal : List ℕ → List ℕ → ℕ
-tableRefusal t h = tableThen t h 0
+tableRefusal t h = firstRefusal (tableTests t h)
 
 -- 5: an interval above 1,000,000,000 is asked about
 unfoldable pub askedRefusal : List ℕ → List ℕ → ℕ → ℕ
-askedRefusal t h l = tableThen t h (refuse 5 (ltb ticksMost l) 0)
+askedRefusal t h l = firstRefusal (tableTests t h ++ ((5, ltb ticksMost l) ∷ []))
 
 -- a figure from 1 to 1,000,000
 pub record Fair (x : ℕ) : Type 0 where

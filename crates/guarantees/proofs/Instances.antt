@@ -5,7 +5,8 @@ use mathlib.Core.Path.{_≡_, refl, sym, _∙_}
 use native.Mathlib.Omega.{arith}
 use Prim.Native.Nat.{ℕ, _≤_}
 use Rattle.demand.specs.Demands.{called, grow, taken, handled, due}
-use Rattle.demand.specs.Refusals.{tableRefusal, tableThen}
+use Rattle.demand.specs.Refusals.{tableRefusal, tableTests}
+use Rattle.demand.specs.Tests.{firstRefusal}
 use Rattle.demand.specs.Rows.{some, total, tasksOf, handlersOf}
 use Rattle.verdict.proofs.Cases.{same, short, pairs, holds, holds-says, cases-hold}
 use Rattle.verdict.proofs.UnderLess.{says-fits}
@@ -28,7 +29,7 @@ use Rattle.scheduler.specs.Scans.{at, any, firstOf, filled, used}
 use Rattle.machine.specs.Schedules.{Timely, beats}
 use Rattle.machine.specs.Machine.{sync}
 use Rattle.scheduler.specs.Start.{freshOf, freshRun, padded, zeros}
-use Rattle.scheduler.specs.Steps.{stepOf, stepBy, stepRefusal}
+use Rattle.scheduler.specs.Steps.{stepOf, stepBy, stepTests, stepRefusal}
 use Rattle.scheduler.specs.Tick.{nextArrived, dueArrived, owedArrived, earliest, goesTo, lateRow, tickedBy}
 use Rattle.scheduler.specs.declared.Late.the-variants as late
 use Rattle.scheduler.specs.declared.Start.the-variants.{Ready}
@@ -65,16 +66,16 @@ never-late-6 = never-late tasks-6 handlers-6 answer-6 says-6 word-6
 
 -- .. and some offers are accepted: both rows at once, at full cost.
 ready-6 : freshOf tasks-6 handlers-6 .answer ≡ Ready
-unfolding freshOf tableRefusal tableThen some tasksOf handlersOf
+unfolding freshOf tableRefusal firstRefusal tableTests some tasksOf handlersOf
 ready-6 = refl
 
 pub accepted-6 : Accepted (freshOf tasks-6 handlers-6 .run) (1 ∷ 2 ∷ [])
-unfolding freshOf freshRun tableRefusal tableThen some tasksOf handlersOf padded zeros stepRefusal outOfBounds any used
+unfolding freshOf freshRun tableRefusal firstRefusal tableTests some tasksOf handlersOf padded zeros stepRefusal stepTests outOfBounds any used
 accepted-6 = refl
 
 -- What is accepted there is what is legal.
 legal-6 : (ws : List ℕ) → LegalArrivals (freshOf tasks-6 handlers-6 .run) ws
-unfolding freshOf freshRun tableRefusal tableThen some tasksOf handlersOf
+unfolding freshOf freshRun tableRefusal firstRefusal tableTests some tasksOf handlersOf
 legal-6 ws = legal-arrivals (freshOf tasks-6 handlers-6 .run) ws (fresh-in-bounds tasks-6 handlers-6 ready-6) refl (omega arith)
 
 -- The task may come again after its period of 3 ticks: two ticks without it between.
@@ -82,11 +83,11 @@ abbrev between-6 : List (List ℕ)
 between-6 = (0 ∷ 0 ∷ []) ∷ (0 ∷ 0 ∷ []) ∷ []
 
 again-6 : Accepted (offered between-6 (stepOf (freshOf tasks-6 handlers-6 .run) (1 ∷ 2 ∷ []) .run)) (1 ∷ 0 ∷ [])
-unfolding offeredBy freshOf freshRun tableRefusal tableThen some tasksOf handlersOf padded zeros stepBy stepRefusal outOfBounds any used tickedBy nextArrived dueArrived owedArrived filled goesTo earliest firstOf lateRow
+unfolding offeredBy freshOf freshRun tableRefusal firstRefusal tableTests some tasksOf handlersOf padded zeros stepBy stepRefusal stepTests outOfBounds any used tickedBy nextArrived dueArrived owedArrived filled goesTo earliest firstOf lateRow
 again-6 = refl
 
 pub apart-6 : 3 ≤ offered between-6 (stepOf (freshOf tasks-6 handlers-6 .run) (1 ∷ 2 ∷ []) .run) .clock
-unfolding freshOf freshRun tableRefusal tableThen some tasksOf handlersOf padded
+unfolding freshOf freshRun tableRefusal firstRefusal tableTests some tasksOf handlersOf padded
 apart-6 = period-apart (freshOf tasks-6 handlers-6 .run) (1 ∷ 2 ∷ []) (1 ∷ 0 ∷ []) between-6 0 (fresh-in-bounds tasks-6 handlers-6 ready-6) (omega arith) accepted-6 (omega arith) again-6 (omega arith)
 
 -- Some schedule meets every deadline for ever, ours: so whatever the promise allows is a yes.
@@ -122,11 +123,11 @@ late-9 = late-exactly tasks-9 handlers-9 answer-9 says-9 word-9
 
 -- The same run, computed tick by tick: over at clock 10, and task 0 is late.
 over-9 : syncRun tasks-9 handlers-9 10 .over ≡ true
-unfolding beatOf beatsTo beats offeredBy freshOf freshRun tableRefusal tableThen some tasksOf handlersOf padded zeros stepBy stepRefusal outOfBounds any used tickedBy nextArrived dueArrived owedArrived filled goesTo earliest firstOf lateRow
+unfolding beatOf beatsTo beats offeredBy freshOf freshRun tableRefusal firstRefusal tableTests some tasksOf handlersOf padded zeros stepBy stepRefusal stepTests outOfBounds any used tickedBy nextArrived dueArrived owedArrived filled goesTo earliest firstOf lateRow
 over-9 = refl
 
 late-row-9 : syncRun tasks-9 handlers-9 10 .late ≡ late.Task 0
-unfolding beatOf beatsTo beats offeredBy freshOf freshRun tableRefusal tableThen some tasksOf handlersOf padded zeros stepBy stepRefusal outOfBounds any used tickedBy nextArrived dueArrived owedArrived filled goesTo earliest firstOf lateRow
+unfolding beatOf beatsTo beats offeredBy freshOf freshRun tableRefusal firstRefusal tableTests some tasksOf handlersOf padded zeros stepBy stepRefusal stepTests outOfBounds any used tickedBy nextArrived dueArrived owedArrived filled goesTo earliest firstOf lateRow
 late-row-9 = refl
 
 -- So task 0 is the first task owed work with its deadline at 10.
@@ -146,7 +147,7 @@ unfolding figures
 ours-9 = ours-is-one tasks-9 handlers-9 answer-9 says-9 word-9 9 (omega arith)
 
 ready-9 : freshOf tasks-9 handlers-9 .answer ≡ Ready
-unfolding freshOf tableRefusal tableThen some tasksOf handlersOf
+unfolding freshOf tableRefusal firstRefusal tableTests some tasksOf handlersOf
 ready-9 = refl
 
 pub our-run-9 : Ours tasks-9 handlers-9 9
@@ -167,7 +168,7 @@ abbrev case-2 : Case
 case-2 = record { tasks = tasks-2; handlers = handlers-2; sheet = figures answer-2 }
 
 sheet-2 : holds case-2 ≡ true
-unfolding figures holds same pairs short searchEnd bound endBy verdictRefusal tableThen load whole work costs slack millionths period lcmFrom lcm gcd euclid handled called taken grow due total some tasksOf handlersOf
+unfolding figures holds same pairs short searchEnd bound endBy verdictRefusal firstRefusal tableTests load whole work costs slack millionths period lcmFrom lcm gcd euclid handled called taken grow due total some tasksOf handlersOf
 sheet-2 = refl
 
 says-2 : VerdictSays tasks-2 handlers-2 answer-2
@@ -185,11 +186,11 @@ late-2 = late-exactly tasks-2 handlers-2 answer-2 says-2 word-2
 
 -- .. which is before the task may come again, as the same run computes tick by tick.
 late-row-2 : syncRun tasks-2 handlers-2 2 .late ≡ late.Task 0
-unfolding beatOf beatsTo beats offeredBy freshOf freshRun tableRefusal tableThen some tasksOf handlersOf padded zeros stepBy stepRefusal outOfBounds any used tickedBy nextArrived dueArrived owedArrived filled goesTo earliest firstOf lateRow
+unfolding beatOf beatsTo beats offeredBy freshOf freshRun tableRefusal firstRefusal tableTests some tasksOf handlersOf padded zeros stepBy stepRefusal stepTests outOfBounds any used tickedBy nextArrived dueArrived owedArrived filled goesTo earliest firstOf lateRow
 late-row-2 = refl
 
 next-2 : at (syncRun tasks-2 handlers-2 2 .next) 0 ≡ 4
-unfolding beatOf beatsTo beats offeredBy freshOf freshRun tableRefusal tableThen some tasksOf handlersOf padded zeros stepBy stepRefusal outOfBounds any used tickedBy nextArrived dueArrived owedArrived filled goesTo earliest firstOf lateRow
+unfolding beatOf beatsTo beats offeredBy freshOf freshRun tableRefusal firstRefusal tableTests some tasksOf handlersOf padded zeros stepBy stepRefusal stepTests outOfBounds any used tickedBy nextArrived dueArrived owedArrived filled goesTo earliest firstOf lateRow
 next-2 = refl
 
 pub no-schedule-2 : (xs ys : List Live) → ¬ Timely (tasksOf tasks-2) (handlersOf handlers-2) 2 xs ys
@@ -208,7 +209,7 @@ abbrev case-3 : Case
 case-3 = record { tasks = tasks-3; handlers = handlers-2; sheet = figures answer-3 }
 
 sheet-3 : holds case-3 ≡ true
-unfolding figures holds same pairs short searchEnd bound endBy verdictRefusal tableThen load whole work costs slack millionths period lcmFrom lcm gcd euclid handled called taken grow due total some tasksOf handlersOf
+unfolding figures holds same pairs short searchEnd bound endBy verdictRefusal firstRefusal tableTests load whole work costs slack millionths period lcmFrom lcm gcd euclid handled called taken grow due total some tasksOf handlersOf
 sheet-3 = refl
 
 says-3 : VerdictSays tasks-3 handlers-2 answer-3

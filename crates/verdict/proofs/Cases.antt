@@ -14,7 +14,8 @@ use borrow.Author.Tests.{eqb-true}
 use lib.Dec.{eqb}
 use Prim.Native.Nat.{ℕ, zero, suc, _+_, _-_, _≤_, _<_}
 use Rattle.demand.specs.Demands.{called, grow, taken, handled, due, Passes}
-use Rattle.demand.specs.Refusals.{tableThen}
+use Rattle.demand.specs.Refusals.{tableTests}
+use Rattle.demand.specs.Tests.{firstRefusal}
 use Rattle.demand.specs.Rows.{Row, tasksOf, handlersOf, total, some}
 use Rattle.demand.proofs.Divide.{le-or-lt}
 use Rattle.verdict.specs.Cases.{Case, plain, cases, CaseHolds, EveryCase}
@@ -153,7 +154,7 @@ every-case (c ∷ cs) e =
 
 -- The one computation: here the definitions are opened, crate demand's too, since only numbers are left to find.
 all-hold : allHold cases ≡ true
-unfolding allHold holds same pairs short plain cases searchEnd bound endBy verdictRefusal tableThen load whole work costs slack millionths period lcmFrom lcm gcd euclid handled called taken grow due total some tasksOf handlersOf
+unfolding allHold holds same pairs short plain cases searchEnd bound endBy verdictRefusal firstRefusal tableTests load whole work costs slack millionths period lcmFrom lcm gcd euclid handled called taken grow due total some tasksOf handlersOf
 all-hold = refl
 
 pub cases-hold : EveryCase cases

@@ -5,7 +5,8 @@ use mathlib.Core.Path.{_≡_, refl}
 use native.Mathlib.Omega.{arith}
 use Prim.Native.Nat.{ℕ, _+_, _*_, _≤_, _<_}
 use Rattle.demand.specs.Demands.{handled, due, Passes, Fails}
-use Rattle.demand.specs.Refusals.{tableThen}
+use Rattle.demand.specs.Refusals.{tableTests}
+use Rattle.demand.specs.Tests.{firstRefusal}
 use Rattle.demand.specs.Rows.{Row, tasksOf, handlersOf, total, some}
 use Rattle.demand.proofs.Demands.{called-nil, handled-le-called, passes-or-fails}
 use Rattle.verdict.specs.Cases.{plain, dyeHouse, CaseHolds}
@@ -21,7 +22,7 @@ abbrev ts : List Row
 ts = tasksOf (dyeHouse .tasks)
 
 readable : verdictRefusal (dyeHouse .tasks) [] ≡ 0
-unfolding dyeHouse verdictRefusal tableThen period lcmFrom lcm gcd euclid total some plain tasksOf handlersOf
+unfolding dyeHouse verdictRefusal firstRefusal tableTests period lcmFrom lcm gcd euclid total some plain tasksOf handlersOf
 readable = refl
 
 -- H, and W one above it

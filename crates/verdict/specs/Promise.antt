@@ -4,15 +4,15 @@
 --   LeastFailing ts hs l l is the shortest interval that fails
 --   figures r            == the paper's word, number and values for each case of an answer; what does not apply is 0
 --   VerdictSays t h r    r is the answer to the table t, h
-use mathlib.Core.List.{List}
+use mathlib.Core.List.{List, [], _∷_, _++_}
 use mathlib.Core.Path.{_≡_}
 use Prim.Native.Nat.{ℕ, _≤_, _<_}
 use lib.Dec.{ltb}
 use Rattle.demand.specs.Demands.{handled, due, Passes, Fails}
 use Rattle.demand.specs.Limits.{ticksMost}
-use Rattle.demand.specs.Refusals.{tableThen}
+use Rattle.demand.specs.Refusals.{tableTests}
 use Rattle.demand.specs.Rows.{Row, tasksOf, handlersOf}
-use Rattle.demand.specs.Tests.{refuse}
+use Rattle.demand.specs.Tests.{firstRefusal}
 use Rattle.verdict.specs.Loads.{load}
 use Rattle.verdict.specs.Multiples.{period}
 use Rattle.verdict.specs.declared.Answer.{Answer}
@@ -20,7 +20,7 @@ use Rattle.verdict.specs.declared.Answer.the-variants as answer
 
 -- 4: H is above 1,000,000,000
 unfoldable pub verdictRefusal : List ℕ → List ℕ → ℕ
-verdictRefusal t h = tableThen t h (refuse 4 (ltb ticksMost (period (tasksOf t) (handlersOf h))) 0)
+verdictRefusal t h = firstRefusal (tableTests t h ++ ((4, ltb ticksMost (period (tasksOf t) (handlersOf h))) ∷ []))
 
 unfoldable pub AlwaysPasses : List Row → List Row → Type 0
 AlwaysPasses ts hs = (l : ℕ) → 1 ≤ l → Passes ts hs l

@@ -1,7 +1,7 @@
 -- The refusals of a step one after the other, and what a step that is not refused has passed.
 --   Passed r ws        no refusal of 6 to 11 applies
 --   Outcome key r ws   the step is refused, or passes every test and is the tick
-use mathlib.Core.Bool.{true, false, not}
+use mathlib.Core.Bool.{true, false}
 use mathlib.Core.List.{List}
 use mathlib.Core.Logic.{_⊎_, inl, inr}
 use mathlib.Core.Path.{_≡_, refl}
@@ -9,15 +9,15 @@ use native.Mathlib.Nat.{eq-zero-or-pos}
 use native.Mathlib.Omega.{arith}
 use borrow.Author.Tests.{eqb-true, eqb-false, eq-eqb, ne-eqb, not-false}
 use Prim.Native.Nat.{ℕ, _≤_, _<_}
-use lib.Dec.{eqb}
 use lib.ListN.{length}
-use Rattle.demand.proofs.Refused.{not-refused}
+use Rattle.demand.proofs.Chains.{none-first}
+use Rattle.demand.specs.Tests.{firstRefusal}
 use Rattle.demand.specs.Limits.{ticksMost}
 use Rattle.scheduler.specs.Bounds.{outOfBounds, InBounds}
 use Rattle.machine.specs.Live.{Live}
 use Rattle.scheduler.specs.Runs.{rowIn, rowCount}
 use Rattle.scheduler.specs.Scans.{any}
-use Rattle.scheduler.specs.Steps.{early, heavy, stepRefusal, refused, stepBy}
+use Rattle.scheduler.specs.Steps.{early, heavy, stepTests, stepRefusal, refused, stepBy}
 use Rattle.scheduler.specs.Tick.{tickedBy}
 use Rattle.scheduler.specs.declared.Run.{Run}
 use Rattle.scheduler.proofs.Steps.Clauses.{clauses, clauses-clock}
@@ -34,58 +34,53 @@ pub record Passed (r : Run) (ws : List ℕ) : Type 0 where
 
 module _ (r : Run) (ws : List ℕ) where
   pub refusal-6 : true ≡ outOfBounds r → 6 ≡ stepRefusal r ws
-  unfolding stepRefusal
+  unfolding stepRefusal stepTests firstRefusal
   refusal-6 a = rw (← a)
 
   module _ (in-bounds : false ≡ outOfBounds r) where
     pub refusal-7 : r .over ≡ true → 7 ≡ stepRefusal r ws
-    unfolding stepRefusal
+    unfolding stepRefusal stepTests firstRefusal
     refusal-7 a = rw (← in-bounds, a)
 
     module _ (going : r .over ≡ false) where
       pub refusal-8 : r .clock ≡ ticksMost → 8 ≡ stepRefusal r ws
-      unfolding stepRefusal
+      unfolding stepRefusal stepTests firstRefusal
       refusal-8 a = rw (← in-bounds, going, eq-eqb _ _ a)
 
       module _ (soon : r .clock ≡ ticksMost → ⊥) where
         pub refusal-9 : (length ws ≡ rowCount r → ⊥) → 9 ≡ stepRefusal r ws
-        unfolding stepRefusal
+        unfolding stepRefusal stepTests firstRefusal
         refusal-9 a = rw (← in-bounds, going, ne-eqb _ _ soon, ne-eqb _ _ a)
 
         module _ (count : length ws ≡ rowCount r) where
           pub refusal-10 : any (early (r .clock) (r .next) ws) (length ws) ≡ true → 10 ≡ stepRefusal r ws
-          unfolding stepRefusal
+          unfolding stepRefusal stepTests firstRefusal
           refusal-10 a = rw (← in-bounds, going, ne-eqb _ _ soon, eq-eqb _ _ count, ← count, a)
 
           module _ (timely : any (early (r .clock) (r .next) ws) (length ws) ≡ false) where
             pub refusal-11 : any (heavy (rowIn r) ws) (length ws) ≡ true → 11 ≡ stepRefusal r ws
-            unfolding stepRefusal
+            unfolding stepRefusal stepTests firstRefusal
             refusal-11 a = rw (← in-bounds, going, ne-eqb _ _ soon, eq-eqb _ _ count, ← count, timely, a)
 
             pub refusal-0 : any (heavy (rowIn r) ws) (length ws) ≡ false → 0 ≡ stepRefusal r ws
-            unfolding stepRefusal
+            unfolding stepRefusal stepTests firstRefusal
             refusal-0 a = rw (← in-bounds, going, ne-eqb _ _ soon, eq-eqb _ _ count, ← count, timely, a)
 
 -- ---- what no refusal says
 
 pub passed : (r : Run) (ws : List ℕ) → stepRefusal r ws ≡ 0 → Passed r ws
-unfolding stepRefusal
+unfolding stepRefusal stepTests
 passed r ws e =
-    let p6 = not-refused 5 (outOfBounds r) _ e in
-    let p7 = not-refused 6 (r .over) _ (p6 .1) in
-    let p8 = not-refused 7 (eqb (r .clock) ticksMost) _ (p7 .1) in
-    let p9 = not-refused 8 (not (eqb (length ws) (rowCount r))) _ (p8 .1) in
-    let p10 = not-refused 9 (any (early (r .clock) (r .next) ws) (rowCount r)) _ (p9 .1) in
-    let p11 = not-refused 10 (any (heavy (rowIn r) ws) (rowCount r)) _ (p10 .1) in
-    let below : r .clock ≤ ticksMost = clauses-clock r (clauses r (p6 .0)) in
-    let apart : r .clock ≡ ticksMost → ⊥ = eqb-false _ _ (p8 .0) in
+    let (in-bounds, (going, (soon, (count, (timely, (light, _)))))) = none-first (stepTests r ws) refl e in
+    let below : r .clock ≤ ticksMost = clauses-clock r (clauses r in-bounds) in
+    let apart : r .clock ≡ ticksMost → ⊥ = eqb-false _ _ soon in
     record {
-      in-bounds = p6 .0;
-      going = p7 .0;
+      in-bounds = in-bounds;
+      going = going;
       soon = omega arith;
-      count = eqb-true _ _ (not-false _ (p9 .0));
-      timely = p10 .0;
-      light = p11 .0;
+      count = eqb-true _ _ (not-false _ count);
+      timely = timely;
+      light = light;
     }
 
 -- ---- the answer itself

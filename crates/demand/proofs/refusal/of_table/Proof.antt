@@ -1,4 +1,5 @@
-use Rattle.demand.proofs.Refused.{table-1, table-2, table-3, table-13, table-0}
+use Rattle.demand.specs.Refusals.{tableTests, tableRefusal}
+use Rattle.demand.proofs.Chains.{first-at, first-none}
 use borrow.Author.Needs.{needs}
 use Rattle.demand.proofs.refusal.of_table.Statement.{statement}
 use Rattle.demand.proofs.refusal.of_table.Tie as tie
@@ -10,15 +11,21 @@ uneven-requires-2 : tie.Need-uneven-requires-2
 uneven-requires-2 c κs = search needs
 
 returns : tie.Need-returns
-returns c = table-1 _ _ (rw (c .before .before .uneven .ensures, c .before .uneven2 .ensures) at (c .if1 .taken))
+unfolding tableRefusal tableTests
+returns c =
+    let start = c .before .before .before .before .before in
+    first-at (tableTests (start .args .tasks .now) (start .args .handlers .now)) 0 tt (rw (c .before .before .uneven .ensures, c .before .uneven2 .ensures) at (c .if1 .taken))
 
 miscounted-requires : tie.Need-miscounted-requires
 miscounted-requires c κs = search needs
 
 returns-2 : tie.Need-returns-2
+unfolding tableRefusal tableTests
 returns-2 c =
     let odds = c .before .before in
-    table-2 _ _ (rw (odds .before .before .uneven .ensures, odds .before .uneven2 .ensures) at (odds .if1 .left)) (rw (c .before .miscounted .ensures) at (c .if2 .taken))
+    let start = odds .before .before .before .before .before in
+    let even = rw (odds .before .before .uneven .ensures, odds .before .uneven2 .ensures) at (odds .if1 .left) in
+    first-at (tableTests (start .args .tasks .now) (start .args .handlers .now)) 1 (even, tt) (rw (c .before .miscounted .ensures) at (c .if2 .taken))
 
 some-outside-requires : tie.Need-some-outside-requires
 some-outside-requires c κs = search needs
@@ -27,32 +34,41 @@ some-outside-requires-2 : tie.Need-some-outside-requires-2
 some-outside-requires-2 c κs = search needs
 
 returns-3 : tie.Need-returns-3
+unfolding tableRefusal tableTests
 returns-3 c =
     let counts = c .before .before .before in
     let odds = counts .before .before in
-    table-3 _ _ (rw (odds .before .before .uneven .ensures, odds .before .uneven2 .ensures) at (odds .if1 .left)) (rw (counts .before .miscounted .ensures) at (counts .if2 .left))
-    (rw (c .before .before .some-outside .ensures, c .before .some-outside2 .ensures) at (c .if3 .taken))
+    let start = odds .before .before .before .before .before in
+    let even = rw (odds .before .before .uneven .ensures, odds .before .uneven2 .ensures) at (odds .if1 .left) in
+    let counted = rw (counts .before .miscounted .ensures) at (counts .if2 .left) in
+    first-at (tableTests (start .args .tasks .now) (start .args .handlers .now)) 2 (even, (counted, tt)) (rw (c .before .before .some-outside .ensures, c .before .some-outside2 .ensures) at (c .if3 .taken))
 
 some-deadline-outside-requires : tie.Need-some-deadline-outside-requires
 some-deadline-outside-requires c κs = search needs
 
 returns-4 : tie.Need-returns-4
+unfolding tableRefusal tableTests
 returns-4 c =
     let figures = c .before .before in
     let counts = figures .before .before .before in
     let odds = counts .before .before in
-    table-13 _ _ (rw (odds .before .before .uneven .ensures, odds .before .uneven2 .ensures) at (odds .if1 .left)) (rw (counts .before .miscounted .ensures) at (counts .if2 .left))
-    (rw (figures .before .before .some-outside .ensures, figures .before .some-outside2 .ensures) at (figures .if3 .left))
-    (rw (c .before .some-deadline-outside .ensures) at (c .if4 .taken))
+    let start = odds .before .before .before .before .before in
+    let even = rw (odds .before .before .uneven .ensures, odds .before .uneven2 .ensures) at (odds .if1 .left) in
+    let counted = rw (counts .before .miscounted .ensures) at (counts .if2 .left) in
+    let inside = rw (figures .before .before .some-outside .ensures, figures .before .some-outside2 .ensures) at (figures .if3 .left) in
+    first-at (tableTests (start .args .tasks .now) (start .args .handlers .now)) 3 (even, (counted, (inside, tt))) (rw (c .before .some-deadline-outside .ensures) at (c .if4 .taken))
 
 returns-5 : tie.Need-returns-5
+unfolding tableRefusal tableTests
 returns-5 c =
     let figures = c .before .before in
     let counts = figures .before .before .before in
     let odds = counts .before .before in
-    table-0 _ _ (rw (odds .before .before .uneven .ensures, odds .before .uneven2 .ensures) at (odds .if1 .left)) (rw (counts .before .miscounted .ensures) at (counts .if2 .left))
-    (rw (figures .before .before .some-outside .ensures, figures .before .some-outside2 .ensures) at (figures .if3 .left))
-    (rw (c .before .some-deadline-outside .ensures) at (c .if4 .left))
+    let start = odds .before .before .before .before .before in
+    let even = rw (odds .before .before .uneven .ensures, odds .before .uneven2 .ensures) at (odds .if1 .left) in
+    let counted = rw (counts .before .miscounted .ensures) at (counts .if2 .left) in
+    let inside = rw (figures .before .before .some-outside .ensures, figures .before .some-outside2 .ensures) at (figures .if3 .left) in
+    first-none (tableTests (start .args .tasks .now) (start .args .handlers .now)) (even, (counted, (inside, (rw (c .before .some-deadline-outside .ensures) at (c .if4 .left), tt))))
 
 pub of-table-spec : {M : Type 1} → statement M
 of-table-spec =
