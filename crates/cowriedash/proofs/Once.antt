@@ -8,11 +8,12 @@ use Rattle.demand.specs.Answers.{marginFigures}
 use Rattle.demand.specs.Refusals.{askedRefusal}
 use Rattle.demand.specs.Rows.{tasksOf, handlersOf}
 use Rattle.demand.specs.declared.MarginAnswer.{MarginAnswer}
+use Rattle.verdict.specs.Promise.{answerNumbers}
 use Rattle.verdict.proofs.Once.{verdict-unique}
-use Rattle.cowriedash.specs.Numbers.{verdictNumbers, demandNumbers, VerdictTold, DemandTold, MarginTold}
+use Rattle.cowriedash.specs.Numbers.{demandNumbers, VerdictTold, DemandTold, MarginTold}
 
 pub verdict-told-unique : (t h a b : List ℕ) → VerdictTold t h a → VerdictTold t h b → a ≡ b
-verdict-told-unique t h a b p q = p .numbers ∙ ap verdictNumbers (verdict-unique t h (p .answer) (q .answer) (p .says) (q .says)) ∙ sym (q .numbers)
+verdict-told-unique t h a b p q = p .numbers ∙ ap answerNumbers (verdict-unique t h (p .answer) (q .answer) (p .says) (q .says)) ∙ sym (q .numbers)
 
 pub demand-told-unique : (k n : ℕ) (a b : List ℕ) → DemandTold k n a → DemandTold k n b → a ≡ b
 demand-told-unique k n a b p q = p .numbers ∙ ap demandNumbers (demand-unique k n (p .answer) (q .answer) (p .says) (q .says)) ∙ sym (q .numbers)

@@ -1,5 +1,4 @@
 -- What the licensees' library lays into the caller's numbers: the figures of the promises below it, in their order.
---   verdictNumbers r   == 0 fits, 1 misses, 2 refused; then code, interval, handler, task, load
 --   demandNumbers r    == the refusal's number or 0, then the ticks
 --   VerdictTold t h out, HandlerTold t h l out, TaskTold t h l out, MarginTold t h l code ticks   the numbers are those of an answer that the promise allows
 use mathlib.Core.List.{List, [], _∷_}
@@ -13,14 +12,8 @@ use Rattle.demand.specs.Rows.{tasksOf, handlersOf}
 use Rattle.demand.specs.declared.DemandAnswer.{DemandAnswer}
 use Rattle.demand.specs.declared.DemandAnswer.the-variants as demand
 use Rattle.demand.specs.declared.MarginAnswer.{MarginAnswer}
-use Rattle.verdict.specs.Promise.{VerdictSays}
+use Rattle.verdict.specs.Promise.{answerNumbers, VerdictSays}
 use Rattle.verdict.specs.declared.Answer.{Answer}
-use Rattle.verdict.specs.declared.Answer.the-variants as verdict
-
-abbrev pub verdictNumbers : Answer → List ℕ
-verdictNumbers (verdict.Fits load) = 0 ∷ 0 ∷ 0 ∷ 0 ∷ 0 ∷ load ∷ []
-verdictNumbers (verdict.Misses interval handler task load) = 1 ∷ 0 ∷ interval ∷ handler ∷ task ∷ load ∷ []
-verdictNumbers (verdict.Refused number) = 2 ∷ number ∷ 0 ∷ 0 ∷ 0 ∷ 0 ∷ []
 
 abbrev pub demandNumbers : DemandAnswer → List ℕ
 demandNumbers (demand.Ticks n) = 0 ∷ n ∷ []
@@ -29,7 +22,7 @@ demandNumbers (demand.Refused k) = k ∷ 0 ∷ []
 pub record VerdictTold (t h out : List ℕ) : Type 0 where
   pub answer : Answer
   pub says : VerdictSays t h answer
-  pub numbers : out ≡ verdictNumbers answer
+  pub numbers : out ≡ answerNumbers answer
 
 -- the numbers of a demand of n ticks, where the refusal is k
 pub record DemandTold (k n : ℕ) (out : List ℕ) : Type 0 where

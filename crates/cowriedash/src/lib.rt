@@ -1,25 +1,9 @@
 // The licensees' library: the demands and the verdict for C, with numbers and slices only at the boundary.
-ghost use Rattle.cowriedash.specs.Numbers.{verdictNumbers, demandNumbers, VerdictTold, HandlerTold, TaskTold, MarginTold};
+ghost use Rattle.cowriedash.specs.Numbers.{demandNumbers, VerdictTold, HandlerTold, TaskTold, MarginTold};
 ghost use mathlib.Core.Path.{_≡_};
 use demand::DemandAnswer;
 use demand::MarginAnswer;
-use verdict::Answer;
-
-// The six numbers of a verdict: 0 fits, 1 misses, 2 refused; then code, interval, handler, task, load.
-fn verdict_numbers(answer: Answer) -> [u64; 6]
-    ensures { λ r. ⌜ r ≡ verdictNumbers answer ⌝ }
-{
-    match answer {
-        Answer::Fits { load } => [0, 0, 0, 0, 0, load],
-        Answer::Misses {
-            interval,
-            handler,
-            task,
-            load,
-        } => [1, 0, interval, handler, task, load],
-        Answer::Refused { number } => [2, number as u64, 0, 0, 0, 0],
-    }
-}
+use verdict::NUMBERS;
 
 // The two numbers of a demand: the refusal's number or 0, then the ticks.
 fn demand_numbers(answer: DemandAnswer) -> [u64; 2]
@@ -31,13 +15,13 @@ fn demand_numbers(answer: DemandAnswer) -> [u64; 2]
     }
 }
 
-// The verdict on a table.
+// The verdict on a table: 0 fits, 1 misses, 2 refused; then the numbers of the printed line.
 #[no_mangle]
-pub extern "C" fn cowriedash_verdict(tasks: &[u32], handlers: &[u32], out: &mut [u64; 6])
+pub extern "C" fn cowriedash_verdict(tasks: &[u32], handlers: &[u32], out: &mut [u64; NUMBERS])
     ensures { λ _. ⌜ VerdictTold (now (tasks .entry)) (now (handlers .entry)) (now (out .exit)) ⌝ }
 {
     let answer = verdict::verdict(tasks, handlers);
-    *out = verdict_numbers(answer);
+    *out = verdict::numbers(answer);
 }
 
 // Handler demand at l.

@@ -13,6 +13,11 @@ pub const TASKS_MOST: usize = 64;
 
 pub const HANDLERS_MOST: usize = 16;
 
+// The most numbers of either list: three a task, two a handler.
+pub const TASK_NUMBERS: usize = 3 * TASKS_MOST;
+
+pub const HANDLER_NUMBERS: usize = 2 * HANDLERS_MOST;
+
 // The longest interval that may be asked about, the latest clock, the greatest H.
 pub const TICKS_MOST: u64 = 1_000_000_000;
 

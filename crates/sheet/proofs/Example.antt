@@ -15,8 +15,7 @@ use Rattle.layout.specs.declared.words.Columns.the-variants.{Three, Four}
 use Rattle.demand.specs.declared.table.Kind.the-variants.{Task, Handler}
 use Rattle.layout.specs.declared.steps.Last.the-variants.{NoField, Empty, Number}
 use Rattle.verdict.specs.Cases.{cases, plain}
-use Rattle.verdict.specs.Promise.{Figures}
-use Rattle.verdict.specs.Promise.Word.{misses}
+use Rattle.verdict.specs.Promise.{Figures, noOf}
 use Rattle.verdict.proofs.Cases.{cases-hold}
 use Rattle.sheet.proofs.Whole.{sheet-unique}
 
@@ -49,7 +48,7 @@ fourReads = record {
 -- ---- and what is printed
 
 sheet : Figures
-sheet = record { word = misses; code = 0; interval = 10; handler = 3; task = 8; load = 1150000 }
+sheet = noOf (record { interval = 10; handler = 3; task = 8 }) 1150000
 
 judged : TableFigures false (2 ∷ 5 ∷ 5 ∷ 4 ∷ 8 ∷ 8 ∷ []) (1 ∷ 4 ∷ []) sheet
 unfolding TableFigures sheet cases plain

@@ -4,14 +4,14 @@ use mathlib.Core.Path.{_≡_, _∙_}
 use native.Mathlib.Omega.{arith}
 use Prim.Native.Nat.{ℕ, _≤_}
 use lib.ListN.{length, length-append}
-use Rattle.sheet.specs.Printed.{heading, wordText, numbersOf, fieldsMost, lines, printed}
+use Rattle.sheet.specs.Printed.{heading, wordText, fieldsMost, lines, printed}
 use Rattle.text.specs.Ascii.{crlf}
 use Rattle.text.specs.Numbers.{fieldsOf}
 use Rattle.text.specs.Text.{textMost, textOf, blankText, putsOf}
 use Rattle.text.specs.declared.Text.{Text}
 use Rattle.text.proofs.Numbers.{fields-most}
 use Rattle.text.proofs.Writes.{puts-append, puts-blank}
-use Rattle.verdict.specs.Promise.{Figures, Word}
+use Rattle.verdict.specs.Promise.{Figures, Word, numbersOf}
 use Rattle.verdict.specs.Promise.Word.{fits, misses, refused}
 
 word-most : (w : Word) → length (wordText w) ≤ 7

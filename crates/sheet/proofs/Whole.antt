@@ -12,11 +12,11 @@ use Rattle.layout.specs.File.{Entry}
 use Rattle.sheet.specs.Printed.{printed}
 use Rattle.layout.specs.Table.{listOf, misplaced, ReadSays}
 use Rattle.text.specs.Text.{Fits}
-use Rattle.sheet.specs.Whole.{refusedBy, misplacedRefusal, TableFigures, FileFigures, outputOf, SheetSays, OneSheet}
+use Rattle.sheet.specs.Whole.{misplacedRefusal, TableFigures, FileFigures, outputOf, SheetSays, OneSheet}
 use Rattle.sheet.specs.declared.Output.{Output}
 use Rattle.demand.specs.declared.table.Kind.the-variants.{Task, Handler}
 use Rattle.layout.specs.declared.reader.Table.{Table}
-use Rattle.verdict.specs.Promise.{Figures, figures, VerdictSays}
+use Rattle.verdict.specs.Promise.{Figures, figures, refusalOf, VerdictSays}
 use Rattle.verdict.specs.declared.Answer.{Answer}
 use Rattle.verdict.specs.declared.Answer.the-variants as answer
 use Rattle.verdict.proofs.Once as verdict
@@ -36,7 +36,7 @@ module _ (bs : List ℕ) (t : Table) (out : Output) where
   pub broken-sheet : ReadSays bs t → t .ok ≡ false → out ≡ outputOf (figures (answer.Refused 12)) → SheetSays bs out
   unfolding ReadSays figures
   broken-sheet (inl r) broken e = clash _ (sym (ap (λ (x : Table). x .ok) (r .2)) ∙ broken)
-  broken-sheet (inr r) broken e = record { sheet = refusedBy 12; figures = inr (r .0, refl); written = e }
+  broken-sheet (inr r) broken e = record { sheet = refusalOf 12; figures = inr (r .0, refl); written = e }
 
   pub table-sheet : ReadSays bs t → t .ok ≡ true → (a : Answer) → TableFigures (t .misplaced) (listed (t .tasks)) (listed (t .handlers)) (figures a) → out ≡ outputOf (figures a) → SheetSays bs out
   unfolding ReadSays
@@ -61,7 +61,7 @@ module _ (t h : List ℕ) (a : Answer) where
 
   misplaced-answer : (m : Bool) (n : ℕ) → m ≡ true → n ≡ misplacedRefusal t h → a ≡ answer.Refused n → TableFigures m t h (figures a)
   unfolding TableFigures figures
-  misplaced-answer true n e number told = ap figures told ∙ ap refusedBy number
+  misplaced-answer true n e number told = ap figures told ∙ ap refusalOf number
   misplaced-answer false n e number told = clash _ (sym e)
 
   -- Where the table's own refusal is k.

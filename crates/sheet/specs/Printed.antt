@@ -1,15 +1,14 @@
 -- The printed lines (01, "File and printed line"): the header, then verdict, refusal number or 0, failing length, f there, D there, load.
 --   heading             == the header: the names of the verdict and of its numbers
 --   wordText w          == `fits`, `misses` or `refused`
---   numbersOf g         == the numbers of the figures g, in the order of the line
 --   fieldsMost          == the most numbers that a line has room for
 --   lines word numbers  == two CRLF lines, of any word and any numbers
 --   printed g           == the two lines of the figures g
-use mathlib.Core.List.{List, [], _∷_, _++_}
+use mathlib.Core.List.{List, _++_}
 use Prim.Native.Nat.{ℕ}
 use Rattle.text.specs.Ascii.{ascii, crlf}
 use Rattle.text.specs.Numbers.{fieldsOf}
-use Rattle.verdict.specs.Promise.{Figures, Word}
+use Rattle.verdict.specs.Promise.{Figures, Word, numbersOf}
 use Rattle.verdict.specs.Promise.Word.{fits, misses, refused}
 
 abbrev pub heading : List ℕ
@@ -19,9 +18,6 @@ abbrev pub wordText : Word → List ℕ
 wordText fits = ascii "fits"
 wordText misses = ascii "misses"
 wordText refused = ascii "refused"
-
-abbrev pub numbersOf : Figures → List ℕ
-numbersOf g = g .code ∷ g .interval ∷ g .handler ∷ g .task ∷ g .load ∷ []
 
 abbrev pub fieldsMost : ℕ
 fieldsMost = 7

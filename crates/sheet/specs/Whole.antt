@@ -1,5 +1,4 @@
 -- The whole: from the bytes of a file to the bytes of its sheet (01, "File and printed line" and "Numbered refusals"; 02, M-101).
---   refusedBy n           == the figures of refusal n
 --   misplacedRefusal t h  == the refusal of a table with a handler that has a deadline: its own, 1, 2 or 3, or else 13
 --   TableFigures m t h g  g are the figures of the table t, h: that refusal's where m says that a handler has a deadline,
 --                         else the verdict's
@@ -21,24 +20,20 @@ use Rattle.layout.specs.Table.{listOf, misplaced}
 use Rattle.text.specs.Text.{textOf}
 use Rattle.sheet.specs.declared.Output.{Output}
 use Rattle.demand.specs.declared.table.Kind.the-variants.{Task, Handler}
-use Rattle.verdict.specs.Promise.{Figures, Says}
-use Rattle.verdict.specs.Promise.Word.{refused}
-
-abbrev pub refusedBy : ℕ → Figures
-refusedBy n = record { word = refused; code = n; interval = 0; handler = 0; task = 0; load = 0 }
+use Rattle.verdict.specs.Promise.{Figures, refusalOf, Says}
 
 -- 13: a handler has a deadline; it comes after 3
 abbrev pub misplacedRefusal : List ℕ → List ℕ → ℕ
 misplacedRefusal t h = pick (eqb (tableRefusal t h) 0) 13 (tableRefusal t h)
 
 unfoldable pub TableFigures : Bool → List ℕ → List ℕ → Figures → Type 0
-TableFigures true t h g = g ≡ refusedBy (misplacedRefusal t h)
+TableFigures true t h g = g ≡ refusalOf (misplacedRefusal t h)
 TableFigures false t h g = Says t h g
 
 abbrev pub FileFigures : List ℕ → Figures → Type 0
 FileFigures bs g =
     ((es : List Entry) × FileSays bs es × TableFigures (misplaced es) (listOf Task es) (listOf Handler es) g)
-    ⊎ (SaysNothing bs × (g ≡ refusedBy 12))
+    ⊎ (SaysNothing bs × (g ≡ refusalOf 12))
 
 abbrev pub outputOf : Figures → Output
 outputOf g = record { text = textOf (printed g); refusal = g .code }

@@ -63,12 +63,7 @@ fn refusal_of(answer: Answer) -> u32
 {
     match answer {
         Answer::Fits { load: _ } => 0,
-        Answer::Misses {
-            interval: _,
-            handler: _,
-            task: _,
-            load: _,
-        } => 0,
+        Answer::Misses { miss: _, load: _ } => 0,
         Answer::Refused { number } => number,
     }
 }

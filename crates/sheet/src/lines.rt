@@ -1,29 +1,10 @@
 // The two lines of a sheet.
 ghost use mathlib.Core.Path.{_≡_};
-ghost use Rattle.sheet.specs.Printed.{wordText, numbersOf, printed};
+ghost use Rattle.sheet.specs.Printed.{wordText, printed};
 ghost use Rattle.text.specs.Text.{putsOf, textOf};
 ghost use Rattle.verdict.specs.Promise.{figures};
 use text::Text;
 use verdict::Answer;
-
-// How many numbers stand behind the verdict's word.
-pub const NUMBERS: usize = 5;
-
-// The numbers of an answer in the order of the line: code, interval, handler, task, load. Those that don't apply are 0.
-fn numbers(answer: Answer) -> [u64; NUMBERS]
-    ensures { λ r. ⌜ r ≡ numbersOf (figures answer) ⌝ }
-{
-    match answer {
-        Answer::Fits { load } => [0, 0, 0, 0, load],
-        Answer::Misses {
-            interval,
-            handler,
-            task,
-            load,
-        } => [0, interval, handler, task, load],
-        Answer::Refused { number } => [number as u64, 0, 0, 0, 0],
-    }
-}
 
 // The text with the word of an answer more.
 fn with_word(text: Text, answer: Answer) -> Text
@@ -31,12 +12,7 @@ fn with_word(text: Text, answer: Answer) -> Text
 {
     match answer {
         Answer::Fits { load: _ } => text::puts(text, b"fits"),
-        Answer::Misses {
-            interval: _,
-            handler: _,
-            task: _,
-            load: _,
-        } => text::puts(text, b"misses"),
+        Answer::Misses { miss: _, load: _ } => text::puts(text, b"misses"),
         Answer::Refused { number: _ } => text::puts(text, b"refused"),
     }
 }
@@ -47,6 +23,6 @@ pub fn of_answer(answer: Answer) -> Text
 {
     let head = text::of(b"verdict,code,interval,handler,task,load\r\n");
     let named = with_word(head, answer);
-    let figures = numbers(answer);
-    text::puts(text::fields(named, &figures), b"\r\n")
+    let numbers = verdict::numbers(answer);
+    text::puts(text::fields(named, &numbers[1..]), b"\r\n")
 }

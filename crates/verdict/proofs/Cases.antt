@@ -1,7 +1,9 @@
 -- Cases 1 to 12 (specs/Cases), by one computed test of a sheet and one computation over the list.
 --   same ps           == the two figures of each pair are the same
 --   short ts hs n     == the ticks that all lengths up to n lack in sum: 0 where each of them passes
---   pairs w t h g     == the pairs that must be the same for figures g with the word w to be those of table t, h
+--   alike xs ys       == two lists of numbers are the same
+--   facts w t h g     == the pairs that must be the same for figures g with the word w to be true of table t, h
+--   expected w t h g  == the figures that they must then be
 --   holds c           == the test of a case
 --   allHold cs        == the test of each case
 --   Same ps           what same ps comes to, as equations
@@ -22,10 +24,10 @@ use Rattle.verdict.specs.Cases.{Case, plain, cases, CaseHolds, EveryCase
 use Rattle.verdict.specs.Facts.{PassesTo, bound, endBy, searchEnd}
 use Rattle.verdict.specs.Loads.{work, whole, costs, slack, millionths, load}
 use Rattle.verdict.specs.Multiples.{euclid, gcd, lcm, lcmFrom, period}
-use Rattle.verdict.specs.Promise.{Word, Figures, figures, verdictRefusal, SaysBy, Says, VerdictSays}
+use Rattle.verdict.specs.Promise.{Word, Figures, figures, yesOf, noOf, refusalOf, numbersOf, missAt, verdictRefusal, SaysBy, Says, VerdictSays}
 use Rattle.verdict.specs.Promise.Word.{fits, misses, refused}
 use Rattle.verdict.proofs.Facts.Ends.{end-enough}
-use Rattle.verdict.proofs.Once.{says-unique}
+use Rattle.verdict.proofs.Once.{figures-same, says-unique}
 use Rattle.verdict.proofs.Readable.{readable-in-range}
 
 -- ---- pairs of figures
@@ -49,6 +51,22 @@ same-true (p ∷ ps) e =
     let parts : (eqb (p .0) (p .1) ≡ true) × (same ps ≡ true) = both (eqb (p .0) (p .1)) (same ps) e in
     (eqb-true (p .0) (p .1) (parts .0), same-true ps (parts .1))
 
+-- Two lists of the same numbers.
+unfoldable pub alike : List ℕ → List ℕ → Bool
+alike [] [] = true
+alike [] (y ∷ ys) = false
+alike (x ∷ xs) [] = false
+alike (x ∷ xs) (y ∷ ys) = eqb x y && alike xs ys
+
+alike-true : (xs ys : List ℕ) → alike xs ys ≡ true → xs ≡ ys
+unfolding alike
+alike-true [] [] e = refl
+alike-true [] (y ∷ ys) e = cc e
+alike-true (x ∷ xs) [] e = cc e
+alike-true (x ∷ xs) (y ∷ ys) e =
+    let parts = both (eqb x y) (alike xs ys) e in
+    λ i. eqb-true x y (parts .0) i ∷ alike-true xs ys (parts .1) i
+
 -- ---- lengths that pass, from below
 
 unfoldable pub short : List Row → List Row → ℕ → ℕ
@@ -67,77 +85,61 @@ short-zero ts hs (suc n) e l from within = go (short-zero ts hs n (omega arith))
 
 -- ---- the test of a sheet
 
-unfoldable pub pairs : Word → List ℕ → List ℕ → Figures → List (ℕ × ℕ)
-pairs fits t h g =
+unfoldable pub facts : Word → List ℕ → List ℕ → Figures → List (ℕ × ℕ)
+facts fits t h g =
     (verdictRefusal t h, 0)
     ∷ (short (tasksOf t) (handlersOf h) (searchEnd (tasksOf t) (handlersOf h)), 0)
-    ∷ (g .code, 0)
-    ∷ (g .interval, 0)
-    ∷ (g .handler, 0)
-    ∷ (g .task, 0)
-    ∷ (g .load, load (tasksOf t) (handlersOf h))
     ∷ []
-pairs misses t h g =
+facts misses t h g =
     (verdictRefusal t h, 0)
     ∷ (1 - g .interval, 0)
     ∷ (suc (g .interval) - (handled (handlersOf h) (g .interval) + due (tasksOf t) (g .interval)), 0)
     ∷ (short (tasksOf t) (handlersOf h) (g .interval - 1), 0)
-    ∷ (g .code, 0)
-    ∷ (g .handler, handled (handlersOf h) (g .interval))
-    ∷ (g .task, due (tasksOf t) (g .interval))
-    ∷ (g .load, load (tasksOf t) (handlersOf h))
     ∷ []
-pairs refused t h g =
-    (1 - verdictRefusal t h, 0)
-    ∷ (g .code, verdictRefusal t h)
-    ∷ (g .interval, 0)
-    ∷ (g .handler, 0)
-    ∷ (g .task, 0)
-    ∷ (g .load, 0)
-    ∷ []
+facts refused t h g = (1 - verdictRefusal t h, 0) ∷ []
+
+unfoldable pub expected : Word → List ℕ → List ℕ → Figures → Figures
+expected fits t h g = yesOf (load (tasksOf t) (handlersOf h))
+expected misses t h g = noOf (missAt (tasksOf t) (handlersOf h) (g .interval)) (load (tasksOf t) (handlersOf h))
+expected refused t h g = refusalOf (verdictRefusal t h)
 
 unfoldable pub holds : Case → Bool
-holds c = same (pairs (c .sheet .word) (c .tasks) (c .handlers) (c .sheet))
+holds c =
+    same (facts (c .sheet .word) (c .tasks) (c .handlers) (c .sheet))
+    && alike (numbersOf (c .sheet)) (numbersOf (expected (c .sheet .word) (c .tasks) (c .handlers) (c .sheet)))
 
--- A sheet whose pairs are the same is what the promise says.
-says-by : (w : Word) (t h : List ℕ) (g : Figures) → Same (pairs w t h g) → SaysBy w t h g
-unfolding pairs SaysBy
-says-by fits t h g (readable, (passes, (code, (interval, (handler, (task, (loaded, _))))))) = record {
+-- A sheet whose facts hold and whose figures are those expected is what the promise says.
+says-by : (w : Word) (t h : List ℕ) (g : Figures) → g .word ≡ w → Same (facts w t h g) → numbersOf g ≡ numbersOf (expected w t h g) → SaysBy w t h g
+unfolding facts expected SaysBy
+says-by fits t h g word (readable, (passes, _)) numbers = record {
   readable = readable;
   passes = end-enough (tasksOf t) (handlersOf h) (readable-in-range t h readable) (short-zero (tasksOf t) (handlersOf h) (searchEnd (tasksOf t) (handlersOf h)) passes);
-  code = code;
-  interval = interval;
-  handler = handler;
-  task = task;
-  load = loaded;
+  figures = figures-same g (yesOf (load (tasksOf t) (handlersOf h))) word numbers;
 }
-says-by misses t h g (readable, (positive, (fails, (below, (code, (handler, (task, (loaded, _)))))))) = record {
+says-by misses t h g word (readable, (positive, (fails, (below, _)))) numbers = record {
   readable = readable;
   shortest = record {
     positive = omega arith;
     fails = omega arith;
     least = λ m from less. short-zero (tasksOf t) (handlersOf h) (g .interval - 1) below m from (omega arith);
   };
-  code = code;
-  handler = handler;
-  task = task;
-  load = loaded;
+  figures = figures-same g (noOf (missAt (tasksOf t) (handlersOf h) (g .interval)) (load (tasksOf t) (handlersOf h))) word numbers;
 }
-says-by refused t h g (unreadable, (code, (interval, (handler, (task, (loaded, _)))))) = record {
+says-by refused t h g word (unreadable, _) numbers = record {
   unreadable = omega arith;
-  code = code;
-  interval = interval;
-  handler = handler;
-  task = task;
-  load = loaded;
+  figures = figures-same g (refusalOf (verdictRefusal t h)) word numbers;
 }
 
 -- A case whose test holds is what the promise says, and whatever the promise allows has its figures.
 pub holds-says : (c : Case) → holds c ≡ true → CaseHolds c
 unfolding holds Says VerdictSays
 holds-says c e =
-    let says : Says (c .tasks) (c .handlers) (c .sheet) = says-by (c .sheet .word) (c .tasks) (c .handlers) (c .sheet) (same-true (pairs (c .sheet .word) (c .tasks) (c .handlers) (c .sheet)) e) in
-    record { holds = says; only = λ r s. says-unique (c .tasks) (c .handlers) (figures r) (c .sheet) s says }
+    let t = c .tasks in
+    let h = c .handlers in
+    let g = c .sheet in
+    let tested = both (same (facts (g .word) t h g)) (alike (numbersOf g) (numbersOf (expected (g .word) t h g))) e in
+    let says : Says t h g = says-by (g .word) t h g refl (same-true (facts (g .word) t h g) (tested .0)) (alike-true (numbersOf g) (numbersOf (expected (g .word) t h g)) (tested .1)) in
+    record { holds = says; only = λ r s. says-unique t h (figures r) g s says }
 
 -- ---- all of them
 
@@ -154,7 +156,7 @@ every-case (c ∷ cs) e =
 
 -- The one computation: here the definitions are opened, crate demand's too, since only numbers are left to find.
 all-hold : allHold cases ≡ true
-unfolding allHold holds same pairs short plain cases searchEnd bound endBy verdictRefusal firstRefusal tableTests load whole work costs slack millionths period lcmFrom lcm gcd euclid handled called taken grow due total some tasksOf handlersOf
+unfolding allHold holds same facts alike expected short plain cases searchEnd bound endBy verdictRefusal firstRefusal tableTests load whole work costs slack millionths period lcmFrom lcm gcd euclid handled called taken grow due total some tasksOf handlersOf
 all-hold = refl
 
 pub cases-hold : EveryCase cases

@@ -1,7 +1,7 @@
 -- The table of M-100 (specs/Cases): its lengths are too many to compute, so the share of H stands in for the walk.
 use mathlib.Core.List.{List, []}
 use mathlib.Core.Logic.{_⊎_, inl, inr}
-use mathlib.Core.Path.{_≡_, refl}
+use mathlib.Core.Path.{_≡_, refl, sym}
 use native.Mathlib.Omega.{arith}
 use Prim.Native.Nat.{ℕ, _+_, _*_, _≤_, _<_}
 use Rattle.demand.specs.Demands.{handled, due, Passes, Fails}
@@ -12,7 +12,7 @@ use Rattle.demand.proofs.Demands.{called-nil, handled-le-called, passes-or-fail
 use Rattle.verdict.specs.Cases.{plain, dyeHouse, CaseHolds}
 use Rattle.verdict.specs.Loads.{work, whole, slack, millionths, load}
 use Rattle.verdict.specs.Multiples.{euclid, gcd, lcm, lcmFrom, period}
-use Rattle.verdict.specs.Promise.{figures, verdictRefusal, SaysBy, Says, VerdictSays}
+use Rattle.verdict.specs.Promise.{figures, noOf, verdictRefusal, SaysBy, Says, VerdictSays}
 use Rattle.verdict.proofs.Divisors.{period-tasks}
 use Rattle.verdict.proofs.Once.{says-unique}
 use Rattle.verdict.proofs.Readable.{readable-in-range}
@@ -71,10 +71,7 @@ says = record {
     fails = omega (arith, due-is);
     least = λ m from less. below m less;
   };
-  code = refl;
-  handler = omega (arith, none 999999000);
-  task = omega (arith, due-is);
-  load = omega (arith, load-is);
+  figures = λ i. noOf (record { interval = 999999000; handler = sym (none 999999000) i; task = sym due-is i }) (sym load-is i);
 }
 
 pub dye-house : CaseHolds dyeHouse

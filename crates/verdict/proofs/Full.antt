@@ -1,6 +1,6 @@
 -- What a load says (specs/Full).
 use mathlib.Core.List.{List}
-use mathlib.Core.Path.{_≡_}
+use mathlib.Core.Path.{_≡_, ap}
 use native.Mathlib.Omega.{arith}
 use Prim.Native.Nat.{ℕ}
 use Rattle.demand.specs.Rows.{tasksOf, handlersOf}
@@ -18,8 +18,8 @@ unfolding Says SaysBy
 says-load t h g readable = go (g .word)
   where
     go : (w : Word) → SaysBy w t h g → g .load ≡ load (tasksOf t) (handlersOf h)
-    go fits s = s .load
-    go misses s = s .load
+    go fits s = ap (λ (f : Figures). f .load) (s .figures)
+    go misses s = ap (λ (f : Figures). f .load) (s .figures)
     go refused s = absurd (omega (arith, s .unreadable))
 
 pub load-tells : LoadTells

@@ -3,9 +3,10 @@ use mathlib.Core.List.{List}
 use mathlib.Core.Path.{_≡_, refl, ap, sym, _∙_}
 use native.Mathlib.Omega.{arith}
 use Prim.Native.Nat.{ℕ}
-use Rattle.demand.specs.Demands.{handled, due}
+use lib.ListN.{getD}
 use Rattle.demand.specs.Rows.{tasksOf, handlersOf}
-use Rattle.verdict.specs.Promise.{Word, Figures, figures, SaysFits, SaysMisses, SaysRefused, SaysBy, Says, VerdictSays}
+use Rattle.verdict.specs.Loads.{load}
+use Rattle.verdict.specs.Promise.{Word, Figures, figures, noOf, numbersOf, missAt, SaysFits, SaysMisses, SaysRefused, SaysBy, Says, VerdictSays}
 use Rattle.verdict.specs.Promise.Word.{fits, misses, refused}
 use Rattle.verdict.specs.declared.Answer.{Answer}
 use Rattle.verdict.specs.declared.Answer.the-variants as answer
@@ -13,28 +14,32 @@ use Rattle.verdict.proofs.Lengths.{least-unique, fits-never-fails}
 
 -- ---- one set of figures
 
--- Figures are equal where each of them is.
-figures-same : {f g : Figures} → f .word ≡ g .word → f .code ≡ g .code → f .interval ≡ g .interval → f .handler ≡ g .handler → f .task ≡ g .task → f .load ≡ g .load → f ≡ g
-figures-same w c n h t l = λ i. record { word = w i; code = c i; interval = n i; handler = h i; task = t i; load = l i }
+-- Figures with the same word and the same numbers are the same.
+pub figures-same : (f g : Figures) → f .word ≡ g .word → numbersOf f ≡ numbersOf g → f ≡ g
+figures-same f g word numbers = λ i. record {
+  word = word i;
+  code = getD (numbers i) 0 0;
+  interval = getD (numbers i) 1 0;
+  handler = getD (numbers i) 2 0;
+  task = getD (numbers i) 3 0;
+  load = getD (numbers i) 4 0;
+}
 
-module _ (t h : List ℕ) (f g : Figures) (same : f .word ≡ g .word) where
+module _ (t h : List ℕ) (f g : Figures) where
   fits-same : SaysFits t h f → SaysFits t h g → f ≡ g
-  fits-same a b =
-      figures-same same (a .code ∙ sym (b .code)) (a .interval ∙ sym (b .interval)) (a .handler ∙ sym (b .handler)) (a .task ∙ sym (b .task)) (a .load ∙ sym (b .load))
+  fits-same a b = a .figures ∙ sym (b .figures)
 
   misses-same : SaysMisses t h f → SaysMisses t h g → f ≡ g
   misses-same a b =
-      let e : f .interval ≡ g .interval = least-unique (tasksOf t) (handlersOf h) (f .interval) (g .interval) (a .shortest) (b .shortest) in
-      figures-same same (a .code ∙ sym (b .code)) e
-      (a .handler ∙ ap (λ (l : ℕ). handled (handlersOf h) l) e ∙ sym (b .handler))
-      (a .task ∙ ap (λ (l : ℕ). due (tasksOf t) l) e ∙ sym (b .task))
-      (a .load ∙ sym (b .load))
+      let ts = tasksOf t in
+      let hs = handlersOf h in
+      a .figures
+      ∙ ap (λ (l : ℕ). noOf (missAt ts hs l) (load ts hs)) (least-unique ts hs (f .interval) (g .interval) (a .shortest) (b .shortest))
+      ∙ sym (b .figures)
 
   refused-same : SaysRefused t h f → SaysRefused t h g → f ≡ g
-  refused-same a b =
-      figures-same same (a .code ∙ sym (b .code)) (a .interval ∙ sym (b .interval)) (a .handler ∙ sym (b .handler)) (a .task ∙ sym (b .task)) (a .load ∙ sym (b .load))
+  refused-same a b = a .figures ∙ sym (b .figures)
 
-module _ (t h : List ℕ) (f g : Figures) where
   -- A table that is readable is not refused, and one that fits does not miss.
   pub fits-or-misses : SaysFits t h f → SaysMisses t h g → ⊥
   fits-or-misses a b = fits-never-fails (tasksOf t) (handlersOf h) (g .interval) (a .passes) (b .shortest)
@@ -50,15 +55,15 @@ unfolding Says SaysBy
 says-unique t h f g = go (f .word) (g .word) refl refl
   where
     go : (v w : Word) → f .word ≡ v → g .word ≡ w → SaysBy v t h f → SaysBy w t h g → f ≡ g
-    go fits fits p q a b = fits-same t h f g (p ∙ sym q) a b
+    go fits fits p q a b = fits-same t h f g a b
     go fits misses p q a b = absurd (fits-or-misses t h f g a b)
     go fits refused p q a b = absurd (fits-or-refused t h f g a b)
     go misses fits p q a b = absurd (fits-or-misses t h g f b a)
-    go misses misses p q a b = misses-same t h f g (p ∙ sym q) a b
+    go misses misses p q a b = misses-same t h f g a b
     go misses refused p q a b = absurd (misses-or-refused t h f g a b)
     go refused fits p q a b = absurd (fits-or-refused t h g f b a)
     go refused misses p q a b = absurd (misses-or-refused t h g f b a)
-    go refused refused p q a b = refused-same t h f g (p ∙ sym q) a b
+    go refused refused p q a b = refused-same t h f g a b
 
 -- ---- one answer
 
@@ -66,14 +71,14 @@ says-unique t h f g = go (f .word) (g .word) refl refl
 pub figures-once : (r s : Answer) → figures r ≡ figures s → r ≡ s
 unfolding figures
 figures-once (answer.Fits l) (answer.Fits m) e = ap answer.Fits (ap (λ (f : Figures). f .load) e)
-figures-once (answer.Fits l) (answer.Misses n a b m) e = cc (ap (λ (f : Figures). f .word) e)
+figures-once (answer.Fits l) (answer.Misses a m) e = cc (ap (λ (f : Figures). f .word) e)
 figures-once (answer.Fits l) (answer.Refused k) e = cc (ap (λ (f : Figures). f .word) e)
-figures-once (answer.Misses n a b l) (answer.Fits m) e = cc (ap (λ (f : Figures). f .word) e)
-figures-once (answer.Misses n a b l) (answer.Misses n' a' b' m) e =
-    λ i. answer.Misses (e i .interval) (e i .handler) (e i .task) (e i .load)
-figures-once (answer.Misses n a b l) (answer.Refused k) e = cc (ap (λ (f : Figures). f .word) e)
+figures-once (answer.Misses a l) (answer.Fits m) e = cc (ap (λ (f : Figures). f .word) e)
+figures-once (answer.Misses a l) (answer.Misses b m) e =
+    λ i. answer.Misses (record { interval = e i .interval; handler = e i .handler; task = e i .task }) (e i .load)
+figures-once (answer.Misses a l) (answer.Refused k) e = cc (ap (λ (f : Figures). f .word) e)
 figures-once (answer.Refused k) (answer.Fits m) e = cc (ap (λ (f : Figures). f .word) e)
-figures-once (answer.Refused k) (answer.Misses n a b m) e = cc (ap (λ (f : Figures). f .word) e)
+figures-once (answer.Refused k) (answer.Misses b m) e = cc (ap (λ (f : Figures). f .word) e)
 figures-once (answer.Refused k) (answer.Refused m) e = ap answer.Refused (ap (λ (f : Figures). f .code) e)
 
 pub verdict-unique : (t h : List ℕ) (r s : Answer) → VerdictSays t h r → VerdictSays t h s → r ≡ s

@@ -1,6 +1,6 @@
 -- Answers that meet the promise, from what the code has in hand.
 use mathlib.Core.List.{List}
-use mathlib.Core.Path.{_≡_, refl, sym, subst, _∙_}
+use mathlib.Core.Path.{_≡_, ap, sym, subst, _∙_}
 use native.Mathlib.Nat.{mul-le-mul}
 use native.Mathlib.Omega.{arith}
 use Prim.Native.Nat.{ℕ, _+_, _*_, _≤_, _<_}
@@ -12,8 +12,9 @@ use Rattle.demand.proofs.Sums.{valid-positive}
 use Rattle.verdict.specs.Facts.{PassesTo, FoundAt, FoundSays, bound, endBy, searchEnd}
 use Rattle.verdict.specs.Loads.{work, whole, costs, slack, millionths, load}
 use Rattle.verdict.specs.Multiples.{period, capped}
-use Rattle.verdict.specs.Promise.{figures, verdictRefusal, SaysBy, Says, VerdictSays}
+use Rattle.verdict.specs.Promise.{figures, yesOf, noOf, refusalOf, verdictRefusal, SaysBy, Says, VerdictSays}
 use Rattle.verdict.specs.declared.Answer.the-variants as answer
+use Rattle.verdict.specs.declared.Miss.{Miss}
 use Rattle.verdict.specs.declared.search.Found.{Found}
 use Rattle.verdict.specs.declared.search.Found.the-variants as found
 use Rattle.verdict.proofs.Divisors.{period-positive}
@@ -64,14 +65,7 @@ module _ (t h : List ℕ) where
   unfolding VerdictSays Says SaysBy figures
   says-refused number e some =
       let same = refused-table t h (omega arith) in
-      record {
-        unreadable = omega (arith, same);
-        code = e ∙ sym same;
-        interval = refl;
-        handler = refl;
-        task = refl;
-        load = refl;
-      }
+      record { unreadable = omega (arith, same); figures = ap refusalOf (e ∙ sym same) }
 
   module _ (e : tableRefusal t h ≡ 0) where
     pub says-refused-4 : (m : ℕ) → m ≡ capped (period (tasksOf t) (handlersOf h)) → m ≡ 0 → VerdictSays t h (answer.Refused 4)
@@ -79,14 +73,7 @@ module _ (t h : List ℕ) where
     says-refused-4 m em none =
         let pos = period-positive (tasksOf t) (handlersOf h) (valid-positive (tasksOf t) (tasks-valid t h e)) (handlers-positive t h e) in
         let four = refused-4 t h e (capped-zero (period (tasksOf t) (handlersOf h)) pos (sym none ∙ em)) in
-        record {
-          unreadable = omega (arith, four);
-          code = sym four;
-          interval = refl;
-          handler = refl;
-          task = refl;
-          load = refl;
-        }
+        record { unreadable = omega (arith, four); figures = ap refusalOf (sym four) }
 
     pub says-readable : (m : ℕ) → m ≡ capped (period (tasksOf t) (handlersOf h)) → 0 < m → (verdictRefusal t h ≡ 0) × (m ≡ period (tasksOf t) (handlersOf h))
     says-readable m em some =
@@ -101,22 +88,11 @@ module _ (t h : List ℕ) where
         record {
           readable = readable;
           passes = end-enough (tasksOf t) (handlersOf h) (readable-in-range t h readable) (rw en at passes);
-          code = refl;
-          interval = refl;
-          handler = refl;
-          task = refl;
-          load = el;
+          figures = ap yesOf el;
         }
 
-    pub says-misses : (r : Found) (i f d : ℕ) → FoundSays (tasksOf t) (handlersOf h) n r → r ≡ found.At i f d → VerdictSays t h (answer.Misses i f d l)
+    pub says-misses : (r : Found) (m : Miss) → FoundSays (tasksOf t) (handlersOf h) n r → r ≡ found.At m → VerdictSays t h (answer.Misses m l)
     unfolding VerdictSays Says SaysBy figures FoundSays
-    says-misses r i f d says e =
-        let at : FoundAt (tasksOf t) (handlersOf h) n i f d = subst (FoundSays (tasksOf t) (handlersOf h) n) e says in
-        record {
-          readable = readable;
-          shortest = at .shortest;
-          code = refl;
-          handler = at .handler;
-          task = at .task;
-          load = el;
-        }
+    says-misses r m says e =
+        let at : FoundAt (tasksOf t) (handlersOf h) n m = subst (FoundSays (tasksOf t) (handlersOf h) n) e says in
+        record { readable = readable; shortest = at .shortest; figures = λ i. noOf (at .exact i) (el i) }

@@ -42,7 +42,8 @@ module _ (ts hs : List Row) (valid : Valid ts) where
         go (inr less) = before-next x from less
 
     -- The first test length that fails is the shortest length that does.
-    pub fails-first : (end f d : ℕ) → l < top → n ≤ end → f ≡ handled hs n → d ≡ due ts n → n < f + d → FoundAt ts hs end n f d
+    pub fails-first : (end f d : ℕ) → l < top → n ≤ end → f ≡ handled hs n → d ≡ due ts n → n < f + d
+        → FoundAt ts hs end (record { interval = n; handler = f; task = d })
     fails-first end f d more within ef ed fails = record {
       shortest = record {
         positive = omega (arith, next-above ts l top valid more, next);
@@ -50,6 +51,5 @@ module _ (ts hs : List Row) (valid : Valid ts) where
         least = before-next;
       };
       within = within;
-      handler = ef;
-      task = ed;
+      exact = λ i. record { interval = n; handler = ef i; task = ed i };
     }

@@ -7,8 +7,7 @@
 use mathlib.Core.List.{List, [], _∷_}
 use mathlib.Core.Path.{_≡_}
 use Prim.Native.Nat.{ℕ}
-use Rattle.verdict.specs.Promise.{Figures, figures, Says, VerdictSays}
-use Rattle.verdict.specs.Promise.Word.{fits, misses, refused}
+use Rattle.verdict.specs.Promise.{Figures, figures, yesOf, noOf, refusalOf, Says, VerdictSays}
 use Rattle.verdict.specs.declared.Answer.{Answer}
 
 pub record Case : Type 0 where
@@ -17,13 +16,13 @@ pub record Case : Type 0 where
   pub sheet : Figures
 
 abbrev yes : ℕ → Figures
-yes load = record { word = fits; code = 0; interval = 0; handler = 0; task = 0; load = load }
+yes load = yesOf load
 
 abbrev no : ℕ → ℕ → ℕ → ℕ → Figures
-no interval handler task load = record { word = misses; code = 0; interval = interval; handler = handler; task = task; load = load }
+no interval handler task load = noOf (record { interval = interval; handler = handler; task = task }) load
 
 abbrev refusal : ℕ → Figures
-refusal code = record { word = refused; code = code; interval = 0; handler = 0; task = 0; load = 0 }
+refusal code = refusalOf code
 
 abbrev case : List ℕ → List ℕ → Figures → Case
 case t h g = record { tasks = t; handlers = h; sheet = g }

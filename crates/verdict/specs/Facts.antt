@@ -11,12 +11,13 @@ use mathlib.Core.List.{List}
 use mathlib.Core.Path.{_≡_}
 use Prim.Native.Nat.{ℕ, _+_, _-_, _*_, _/_, _≤_, _<_, min}
 use lib.Dec.{ltb, eqb}
-use Rattle.demand.specs.Demands.{handled, due, Passes, Fails}
+use Rattle.demand.specs.Demands.{Passes, Fails}
 use Rattle.demand.specs.Rows.{Row}
 use Rattle.demand.specs.Tests.{pick}
 use Rattle.verdict.specs.Loads.{whole, costs, slack}
 use Rattle.verdict.specs.Multiples.{period}
-use Rattle.verdict.specs.Promise.{AlwaysPasses, LeastFailing}
+use Rattle.verdict.specs.Promise.{AlwaysPasses, LeastFailing, missAt}
+use Rattle.verdict.specs.declared.Miss.{Miss}
 use Rattle.verdict.specs.declared.search.Found.{Found}
 use Rattle.verdict.specs.declared.search.Found.the-variants.{At, Nothing}
 
@@ -52,12 +53,11 @@ endBy H W B =
 unfoldable pub searchEnd : List Row → List Row → ℕ
 searchEnd ts hs = endBy (period ts hs) (whole ts hs) (bound ts hs)
 
-pub record FoundAt (ts hs : List Row) (end interval f d : ℕ) : Type 0 where
-  pub shortest : LeastFailing ts hs interval
-  pub within : interval ≤ end
-  pub handler : f ≡ handled hs interval
-  pub task : d ≡ due ts interval
+pub record FoundAt (ts hs : List Row) (end : ℕ) (m : Miss) : Type 0 where
+  pub shortest : LeastFailing ts hs (m .interval)
+  pub within : m .interval ≤ end
+  pub exact : m ≡ missAt ts hs (m .interval)
 
 unfoldable pub FoundSays : List Row → List Row → ℕ → Found → Type 0
-FoundSays ts hs end (At interval handler task) = FoundAt ts hs end interval handler task
+FoundSays ts hs end (At miss) = FoundAt ts hs end miss
 FoundSays ts hs end Nothing = PassesTo ts hs end

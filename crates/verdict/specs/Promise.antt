@@ -3,6 +3,10 @@
 --   AlwaysPasses ts hs   every interval length from 1 up passes, with no upper end
 --   LeastFailing ts hs l l is the shortest interval that fails
 --   figures r            == the paper's word, number and values for each case of an answer; what does not apply is 0
+--   yesOf, noOf, refusalOf   == those of a yes, of a no and of a refusal
+--   numbersOf g          == the numbers of the figures g, in the order of the printed line
+--   answerNumbers r      == those of an answer, behind the number of its word
+--   missAt ts hs l       == what is told of an interval of l ticks that fails
 --   VerdictSays t h r    r is the answer to the table t, h
 use mathlib.Core.List.{List, [], _∷_, _++_}
 use mathlib.Core.Path.{_≡_}
@@ -17,6 +21,7 @@ use Rattle.verdict.specs.Loads.{load}
 use Rattle.verdict.specs.Multiples.{period}
 use Rattle.verdict.specs.declared.Answer.{Answer}
 use Rattle.verdict.specs.declared.Answer.the-variants as answer
+use Rattle.verdict.specs.declared.Miss.{Miss}
 
 -- 4: H is above 1,000,000,000
 unfoldable pub verdictRefusal : List ℕ → List ℕ → ℕ
@@ -29,6 +34,8 @@ pub record LeastFailing (ts hs : List Row) (l : ℕ) : Type 0 where
   pub positive : 1 ≤ l
   pub fails : Fails ts hs l
   pub least : (m : ℕ) → 1 ≤ m → m < l → Passes ts hs m
+
+-- ---- the figures of an answer, spelled here and nowhere else
 
 pub data Word : Type 0 where
   fits : Word
@@ -43,38 +50,57 @@ pub record Figures : Type 0 where
   pub task : ℕ
   pub load : ℕ
 
+-- of a yes,
+abbrev pub yesOf : ℕ → Figures
+yesOf load = record { word = fits; code = 0; interval = 0; handler = 0; task = 0; load = load }
+
+-- of a no,
+abbrev pub noOf : Miss → ℕ → Figures
+noOf miss load = record { word = misses; code = 0; interval = miss .interval; handler = miss .handler; task = miss .task; load = load }
+
+-- and of a refusal: its number, all other figures 0
+abbrev pub refusalOf : ℕ → Figures
+refusalOf number = record { word = refused; code = number; interval = 0; handler = 0; task = 0; load = 0 }
+
 unfoldable pub figures : Answer → Figures
-figures (answer.Fits load) = record { word = fits; code = 0; interval = 0; handler = 0; task = 0; load = load }
-figures (answer.Misses interval handler task load) = record { word = misses; code = 0; interval = interval; handler = handler; task = task; load = load }
-figures (answer.Refused number) = record { word = refused; code = number; interval = 0; handler = 0; task = 0; load = 0 }
+figures (answer.Fits load) = yesOf load
+figures (answer.Misses miss load) = noOf miss load
+figures (answer.Refused number) = refusalOf number
+
+-- the numbers of a line, in its order; for those who read numbers alone that of the word stands before them
+abbrev pub numbersOf : Figures → List ℕ
+numbersOf g = g .code ∷ g .interval ∷ g .handler ∷ g .task ∷ g .load ∷ []
+
+abbrev pub wordNumber : Word → ℕ
+wordNumber fits = 0
+wordNumber misses = 1
+wordNumber refused = 2
+
+abbrev pub answerNumbers : Answer → List ℕ
+answerNumbers r = wordNumber (figures r .word) ∷ numbersOf (figures r)
+
+-- What is told of an interval that fails: its length and both demands there.
+abbrev pub missAt : List Row → List Row → ℕ → Miss
+missAt ts hs l = record { interval = l; handler = handled hs l; task = due ts l }
+
+-- ---- what they say
 
 -- A yes: the table is readable and every length passes.
 pub record SaysFits (t h : List ℕ) (g : Figures) : Type 0 where
   pub readable : verdictRefusal t h ≡ 0
   pub passes : AlwaysPasses (tasksOf t) (handlersOf h)
-  pub code : g .code ≡ 0
-  pub interval : g .interval ≡ 0
-  pub handler : g .handler ≡ 0
-  pub task : g .task ≡ 0
-  pub load : g .load ≡ load (tasksOf t) (handlersOf h)
+  pub figures : g ≡ yesOf (load (tasksOf t) (handlersOf h))
 
 -- A no: the table is readable, and the shortest length that fails is named with both demands.
 pub record SaysMisses (t h : List ℕ) (g : Figures) : Type 0 where
   pub readable : verdictRefusal t h ≡ 0
   pub shortest : LeastFailing (tasksOf t) (handlersOf h) (g .interval)
-  pub code : g .code ≡ 0
-  pub handler : g .handler ≡ handled (handlersOf h) (g .interval)
-  pub task : g .task ≡ due (tasksOf t) (g .interval)
-  pub load : g .load ≡ load (tasksOf t) (handlersOf h)
+  pub figures : g ≡ noOf (missAt (tasksOf t) (handlersOf h) (g .interval)) (load (tasksOf t) (handlersOf h))
 
--- A refusal: the lowest number that applies, all other figures 0.
+-- A refusal: the first number that applies, all other figures 0.
 pub record SaysRefused (t h : List ℕ) (g : Figures) : Type 0 where
   pub unreadable : 0 < verdictRefusal t h
-  pub code : g .code ≡ verdictRefusal t h
-  pub interval : g .interval ≡ 0
-  pub handler : g .handler ≡ 0
-  pub task : g .task ≡ 0
-  pub load : g .load ≡ 0
+  pub figures : g ≡ refusalOf (verdictRefusal t h)
 
 unfoldable pub SaysBy : Word → List ℕ → List ℕ → Figures → Type 0
 SaysBy fits t h g = SaysFits t h g

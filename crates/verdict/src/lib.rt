@@ -5,25 +5,37 @@ mod search;
 
 ghost use mathlib.Core.Path.{_≡_};
 ghost use Rattle.verdict.specs.Multiples.{period};
-ghost use Rattle.verdict.specs.Promise.{verdictRefusal, VerdictSays};
+ghost use Rattle.verdict.specs.Promise.{verdictRefusal, answerNumbers, VerdictSays};
 ghost use Rattle.demand.specs.Rows.{tasksOf, handlersOf};
 use demand::table::Kind;
 use search::Found;
 
-// Fits, misses at the shortest interval that fails with both demands there, or the number of the refusal.
+// The shortest interval that fails, with both demands there.
+pub struct Miss {
+    pub interval: u64,
+    pub handler: u64,
+    pub task: u64,
+}
+
+// Fits, misses at the shortest interval that fails, or the number of the refusal.
 pub enum Answer {
-    Fits {
-        load: u64,
-    },
-    Misses {
-        interval: u64,
-        handler: u64,
-        task: u64,
-        load: u64,
-    },
-    Refused {
-        number: u32,
-    },
+    Fits { load: u64 },
+    Misses { miss: Miss, load: u64 },
+    Refused { number: u32 },
+}
+
+// How many numbers tell an answer.
+pub const NUMBERS: usize = 6;
+
+// The numbers of an answer: that of its word (0 fits, 1 misses, 2 refused), then those of the printed line.
+pub fn numbers(answer: Answer) -> [u64; NUMBERS]
+    ensures { λ r. ⌜ r ≡ answerNumbers answer ⌝ }
+{
+    match answer {
+        Answer::Fits { load } => [0, 0, 0, 0, 0, load],
+        Answer::Misses { miss, load } => [1, 0, miss.interval, miss.handler, miss.task, load],
+        Answer::Refused { number } => [2, number as u64, 0, 0, 0, 0],
+    }
 }
 
 // The verdict: Fits exactly when every interval length from 1 up passes, with no upper end.
@@ -52,16 +64,7 @@ fn judged(tasks: &[u32], handlers: &[u32], h: u64) -> Answer
     let end = search::end_of(h, w, bound);
     let found = search::first_failing(tasks, handlers, end);
     match found {
-        Found::At {
-            interval,
-            handler,
-            task,
-        } => Answer::Misses {
-            interval,
-            handler,
-            task,
-            load,
-        },
+        Found::At { miss } => Answer::Misses { miss, load },
         Found::Nothing => Answer::Fits { load },
     }
 }

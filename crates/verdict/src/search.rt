@@ -5,15 +5,12 @@ ghost use Rattle.demand.specs.Limits.{ticksMost};
 ghost use Rattle.demand.specs.Refusals.{tableRefusal};
 ghost use Rattle.demand.specs.Rows.{tasksOf, handlersOf};
 ghost use Rattle.verdict.specs.Facts.{endBy, FoundSays};
+use crate::Miss;
 use demand::readable;
 
-// The shortest interval that fails, with f and D there.
+// The shortest interval that fails, or that there is none.
 pub enum Found {
-    At {
-        interval: u64,
-        handler: u64,
-        task: u64,
-    },
+    At { miss: Miss },
     Nothing,
 }
 
@@ -49,11 +46,12 @@ pub fn first_failing(tasks: &[u32], handlers: &[u32], end: u64) -> Found
         f = readable::handled(tasks, handlers, l, f, n);
         let d = readable::due(tasks, handlers, n);
         if n < f + d {
-            return Found::At {
+            let miss = Miss {
                 interval: n,
                 handler: f,
                 task: d,
             };
+            return Found::At { miss };
         }
         l = n;
     }

@@ -1,81 +1,73 @@
 // Prints the verdict on cases 1 to 12 of the paper and on tables made to be hard, in the layout of the printed line.
+use demand::table::HANDLER_NUMBERS;
+use demand::table::TASK_NUMBERS;
 use libc::STDOUT_FILENO;
-use verdict::Answer;
+use verdict::NUMBERS;
 
-fn print_figures(code: u64, interval: u64, handler: u64, task: u64, load: u64) {
-    io::print_decimal(STDOUT_FILENO, code);
-    io::write_all(STDOUT_FILENO, b",");
-    io::print_decimal(STDOUT_FILENO, interval);
-    io::write_all(STDOUT_FILENO, b",");
-    io::print_decimal(STDOUT_FILENO, handler);
-    io::write_all(STDOUT_FILENO, b",");
-    io::print_decimal(STDOUT_FILENO, task);
-    io::write_all(STDOUT_FILENO, b",");
-    io::print_decimal(STDOUT_FILENO, load);
-    io::write_all(STDOUT_FILENO, b"\n");
-}
+// Ten tasks of 1/10.
+const TEN_ALIKE: [u32; 30] = [
+    1,
+    10,
+    10,
+    1,
+    10,
+    10,
+    1,
+    10,
+    10,
+    1,
+    10,
+    10,
+    1,
+    10,
+    10,
+    1,
+    10,
+    10,
+    1,
+    10,
+    10,
+    1,
+    10,
+    10,
+    1,
+    10,
+    10,
+    1,
+    10,
+    10,
+];
 
-fn judge(what: &[u8], tasks: &[u32], handlers: &[u32]) {
-    io::write_all(STDOUT_FILENO, what);
-    let answer = verdict::verdict(tasks, handlers);
-    match answer {
-        Answer::Fits { load } => {
-            io::write_all(STDOUT_FILENO, b": fits,");
-            print_figures(0, 0, 0, 0, load);
+// The word that a number stands for.
+fn print_word(number: u64) {
+    match number {
+        0 => {
+            io::write_all(STDOUT_FILENO, b": fits");
         }
-        Answer::Misses {
-            interval,
-            handler,
-            task,
-            load,
-        } => {
-            io::write_all(STDOUT_FILENO, b": misses,");
-            print_figures(0, interval, handler, task, load);
+        1 => {
+            io::write_all(STDOUT_FILENO, b": misses");
         }
-        Answer::Refused { number } => {
-            io::write_all(STDOUT_FILENO, b": refused,");
-            print_figures(number as u64, 0, 0, 0, 0);
+        _ => {
+            io::write_all(STDOUT_FILENO, b": refused");
         }
     }
 }
 
+fn judge(what: &[u8], tasks: &[u32], handlers: &[u32]) {
+    io::write_all(STDOUT_FILENO, what);
+    let numbers = verdict::numbers(verdict::verdict(tasks, handlers));
+    print_word(numbers[0]);
+    let mut i = 1;
+    while i < NUMBERS {
+        io::write_all(STDOUT_FILENO, b",");
+        io::print_decimal(STDOUT_FILENO, numbers[i]);
+        i += 1;
+    }
+    io::write_all(STDOUT_FILENO, b"\n");
+}
+
 fn cases() {
-    judge(
-        b"case 1",
-        &[
-            1,
-            10,
-            10,
-            1,
-            10,
-            10,
-            1,
-            10,
-            10,
-            1,
-            10,
-            10,
-            1,
-            10,
-            10,
-            1,
-            10,
-            10,
-            1,
-            10,
-            10,
-            1,
-            10,
-            10,
-            1,
-            10,
-            10,
-            1,
-            10,
-            10,
-        ],
-        &[],
-    );
+    judge(b"case 1", &TEN_ALIKE, &[]);
     judge(b"case 2", &[2, 4, 4], &[1, 2]);
     judge(b"case 3", &[1, 4, 4], &[2, 3]);
     judge(b"case 4", &[2, 4, 4], &[2, 3]);
@@ -90,10 +82,10 @@ fn cases() {
 }
 
 // 64 tasks, all alike.
-fn tasks_alike(cost: u32, period: u32, deadline: u32) -> [u32; 192] {
-    let mut rows = [cost; 192];
+fn tasks_alike(cost: u32, period: u32, deadline: u32) -> [u32; TASK_NUMBERS] {
+    let mut rows = [cost; TASK_NUMBERS];
     let mut i = 0;
-    while i + 2 < 192 {
+    while i + 2 < TASK_NUMBERS {
         rows[i + 1] = period;
         rows[i + 2] = deadline;
         i += 3;
@@ -102,10 +94,10 @@ fn tasks_alike(cost: u32, period: u32, deadline: u32) -> [u32; 192] {
 }
 
 // 16 handlers, all alike.
-fn handlers_alike(cost: u32, period: u32) -> [u32; 32] {
-    let mut rows = [cost; 32];
+fn handlers_alike(cost: u32, period: u32) -> [u32; HANDLER_NUMBERS] {
+    let mut rows = [cost; HANDLER_NUMBERS];
     let mut i = 1;
-    while i < 32 {
+    while i < HANDLER_NUMBERS {
         rows[i] = period;
         i += 2;
     }
@@ -113,7 +105,7 @@ fn handlers_alike(cost: u32, period: u32) -> [u32; 32] {
 }
 
 // Every row that a table may have.
-fn judge_many(what: &[u8], tasks: [u32; 192], handlers: [u32; 32]) {
+fn judge_many(what: &[u8], tasks: [u32; TASK_NUMBERS], handlers: [u32; HANDLER_NUMBERS]) {
     judge(what, &tasks, &handlers);
 }
 

@@ -65,7 +65,7 @@ returns c =
     let handlers = c .before .before .before .before .before .before .before .before .work2 .ensures in
     let load = load-read _ _ _ _ _ (x .pre .1) tasks handlers _ (c .before .before .before .before .before .before .before .of-work .ensures) in
     let end = end-read _ _ _ _ _ (x .pre .1) tasks handlers _ _ _ (c .before .before .before .before .before .before .costs .ensures) (c .before .before .before .before .before .slack .ensures) (c .before .before .before .before .end-of .ensures) in
-    says-misses _ _ (x .pre .0) _ _ load end _ _ _ _ (c .before .before .before .first-failing .ensures) (c .before .found .given .1)
+    says-misses _ _ (x .pre .0) _ _ load end _ _ (c .before .before .before .first-failing .ensures) (c .before .found .given .1)
 
 returns-2 : tie.Need-returns-2
 returns-2 c =

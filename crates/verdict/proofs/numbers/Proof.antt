@@ -1,7 +1,8 @@
-use Rattle.verdict.specs.Promise.{figures}
+use mathlib.Core.Path.{sym, ap}
+use Rattle.verdict.specs.Promise.{figures, answerNumbers}
 use borrow.Author.Needs.{needs}
-use Rattle.sheet.proofs.lines.numbers.Statement.{statement}
-use Rattle.sheet.proofs.lines.numbers.Tie as tie
+use Rattle.verdict.proofs.numbers.Statement.{statement}
+use Rattle.verdict.proofs.numbers.Tie as tie
 
 enum-known-answer : tie.Need-enum-known-answer
 enum-known-answer c = search needs
@@ -12,20 +13,20 @@ enum-known-answer-2 c = search needs
 enum-known-answer-3 : tie.Need-enum-known-answer-3
 enum-known-answer-3 c = search needs
 
-cast-t9 : tie.Need-cast-t9
-cast-t9 c = search needs
+cast-t7 : tie.Need-cast-t7
+cast-t7 c = search needs
 
 returns : tie.Need-returns
 unfolding figures
-returns c = rw (c .before .answer .given .1)
+returns c = sym (ap answerNumbers (c .before .answer .given .1))
 
 returns-2 : tie.Need-returns-2
 unfolding figures
-returns-2 c = rw (c .before .answer2 .given .1)
+returns-2 c = sym (ap answerNumbers (c .before .answer2 .given .1))
 
 returns-3 : tie.Need-returns-3
 unfolding figures
-returns-3 c = rw (c .before .answer3 .given .1)
+returns-3 c = sym (ap answerNumbers (c .before .answer3 .given .1))
 
 pub numbers-spec : {M : Type 1} → statement M
 numbers-spec =
@@ -34,7 +35,7 @@ numbers-spec =
     enum-known-answer
     enum-known-answer-2
     enum-known-answer-3
-    cast-t9
+    cast-t7
     returns
     returns-2
     returns-3)
