@@ -1,6 +1,7 @@
 -- What the licensees' library lays into the caller's numbers: the figures of the promises below it, in their order.
 --   demandNumbers r    == the refusal's number or 0, then the ticks
---   VerdictTold t h out, HandlerTold t h l out, TaskTold t h l out, MarginTold t h l code ticks   the numbers are those of an answer that the promise allows
+--   VerdictTold t h out, HandlerTold t h l out, TaskTold t h l out, MarginTold t h l code ticks
+--                      the numbers are those of an answer that the promise allows
 use mathlib.Core.List.{List, [], _∷_}
 use mathlib.Core.Path.{_≡_}
 use lib.IntN.{ℤ}

@@ -3,12 +3,12 @@
 --   holdsAt ts n    == the test at place n; numberAt ts n is its number
 use mathlib.Core.Bool.{Bool, true, false, _&&_}
 use mathlib.Core.List.{List, [], _∷_, _++_}
-use mathlib.Core.Path.{_≡_, refl, sym}
+use mathlib.Core.Path.{_≡_, refl}
 use native.Mathlib.Omega.{arith}
 use Prim.Native.Nat.{ℕ, zero, suc, _<_}
 use lib.Dec.{ltb}
 use lib.ListN.{take}
-use borrow.Author.Tests.{ltb-true, ltb-false}
+use borrow.Author.Tests.{ltb-true}
 use Rattle.demand.specs.Tests.{pick, firstRefusal, NoneHolds}
 
 abbrev pub numbered : List (ℕ × Bool) → Bool

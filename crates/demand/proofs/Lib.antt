@@ -3,12 +3,11 @@ pub mod Sums
 pub mod Taken
 pub mod Demands
 pub mod Between
-pub mod Walks
-pub mod Lighten
+pub mod Lighter
 pub mod Slices
 pub mod Places
 pub mod Chains
-pub mod Refused
-pub mod Sizes
+pub mod Refusals
 pub mod Signs
-pub mod Answered
+pub mod Answers
+pub mod Inside

@@ -8,7 +8,8 @@ use lib.ListN.{length, getD, take, drop, length-drop}
 use lib.Seq.{take-all, drop-drop}
 use Rattle.demand.specs.Refusals.{FairRow}
 use Rattle.demand.specs.Rows.{Row, tasksOf, handlersOf, rowsOf, width, total, some, Each, rest}
-use Rattle.demand.specs.Inside.Walk.{deadlineAfter, nextDeadline, Small}
+use Rattle.demand.specs.Inside.Sizes.{Small}
+use Rattle.demand.specs.Inside.Walk.{deadlineAfter, nextDeadline}
 use Rattle.demand.specs.declared.table.Kind.{Kind}
 use Rattle.demand.specs.declared.table.Kind.the-variants.{Task, Handler}
 use Rattle.demand.proofs.Between.{Plain}

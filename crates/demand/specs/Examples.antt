@@ -1,4 +1,5 @@
--- Figures of 01's "Sums done by hand", and the two shortcuts that are not f (01, "Shortcuts that give a wrong sheet"), worked out from the definitions.
+-- Figures of 01's "Sums done by hand", and the two shortcuts that are not f (01, "Shortcuts that give a wrong sheet"),
+-- worked out from the definitions.
 --   formulaTwo l r   == document 001, formula 2: what bounds one handler apart
 use lib.IntN.{negsuc}
 use mathlib.Core.List.{[], _∷_}

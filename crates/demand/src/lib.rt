@@ -24,7 +24,8 @@ pub enum MarginAnswer {
 
 // Handler demand f at l: the ticks of an interval of l that handlers take.
 pub fn handler_demand(tasks: &[u32], handlers: &[u32], l: u64) -> DemandAnswer
-    ensures { λ r. ⌜ DemandSays (askedRefusal (now (tasks .entry)) (now (handlers .entry)) l) (handled (handlersOf (now (handlers .entry))) l) r ⌝ }
+    ensures { λ r. ⌜ DemandSays (askedRefusal (now (tasks .entry)) (now (handlers .entry)) l)
+        (handled (handlersOf (now (handlers .entry))) l) r ⌝ }
 {
     let number = refusal::of_question(tasks, handlers, l);
     if number == 0 {
@@ -52,7 +53,8 @@ pub fn task_demand(tasks: &[u32], handlers: &[u32], l: u64) -> DemandAnswer
 
 // Margin at l: l - f(l) - D(l), below 0 exactly where the interval fails.
 pub fn margin(tasks: &[u32], handlers: &[u32], l: u64) -> MarginAnswer
-    ensures { λ r. ⌜ MarginSays (askedRefusal (now (tasks .entry)) (now (handlers .entry)) l) (tasksOf (now (tasks .entry))) (handlersOf (now (handlers .entry))) l r ⌝ }
+    ensures { λ r. ⌜ MarginSays (askedRefusal (now (tasks .entry)) (now (handlers .entry)) l)
+        (tasksOf (now (tasks .entry))) (handlersOf (now (handlers .entry))) l r ⌝ }
 {
     let number = refusal::of_question(tasks, handlers, l);
     if number == 0 {

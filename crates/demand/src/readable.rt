@@ -4,7 +4,8 @@ ghost use Prim.Native.Nat.{_≤_};
 ghost use Rattle.demand.specs.Demands.{handled, due};
 ghost use Rattle.demand.specs.Refusals.{askedRefusal};
 ghost use Rattle.demand.specs.Rows.{tasksOf, handlersOf};
-ghost use Rattle.demand.specs.Inside.Walk.{nextDeadline, Small};
+ghost use Rattle.demand.specs.Inside.Sizes.{Small};
+ghost use Rattle.demand.specs.Inside.Walk.{nextDeadline};
 use crate::rows;
 use crate::table::Kind;
 

@@ -9,11 +9,12 @@ use Rattle.demand.specs.Refusals.{tableRefusal, tableTests}
 use Rattle.demand.specs.Tests.{firstRefusal}
 use Rattle.demand.specs.Rows.{some, total, tasksOf, handlersOf}
 use Rattle.verdict.proofs.Cases.{same, alike, short, facts, expected, holds, holds-says, cases-hold}
-use Rattle.verdict.proofs.UnderLess.{says-fits}
+use Rattle.verdict.proofs.Lightening.{says-fits}
 use Rattle.verdict.specs.Cases.{Case, plain, cases}
-use Rattle.verdict.specs.Facts.{bound, endBy, searchEnd}
+use Rattle.verdict.specs.Inside.Search.{endBy, searchEnd}
+use Rattle.verdict.specs.Facts.{bound}
 use Rattle.verdict.specs.Loads.{work, whole, costs, slack, millionths, load}
-use Rattle.verdict.specs.Multiples.{euclid, gcd, lcm, lcmFrom, period}
+use Rattle.verdict.specs.Multiples.{euclid, gcd, lcm, lcmFrom, common}
 use Rattle.verdict.specs.Promise.{figures, verdictRefusal, SaysFits, VerdictSays}
 use Rattle.verdict.specs.Promise.Word.{fits, misses}
 use Rattle.verdict.specs.declared.Answer.{Answer}
@@ -168,7 +169,7 @@ abbrev case-2 : Case
 case-2 = record { tasks = tasks-2; handlers = handlers-2; sheet = figures answer-2 }
 
 sheet-2 : holds case-2 ≡ true
-unfolding figures holds same facts alike expected short searchEnd bound endBy verdictRefusal firstRefusal tableTests load whole work costs slack millionths period lcmFrom lcm gcd euclid handled called taken grow due total some tasksOf handlersOf
+unfolding figures holds same facts alike expected short searchEnd bound endBy verdictRefusal firstRefusal tableTests load whole work costs slack millionths common lcmFrom lcm gcd euclid handled called taken grow due total some tasksOf handlersOf
 sheet-2 = refl
 
 says-2 : VerdictSays tasks-2 handlers-2 answer-2
@@ -209,7 +210,7 @@ abbrev case-3 : Case
 case-3 = record { tasks = tasks-3; handlers = handlers-2; sheet = figures answer-3 }
 
 sheet-3 : holds case-3 ≡ true
-unfolding figures holds same facts alike expected short searchEnd bound endBy verdictRefusal firstRefusal tableTests load whole work costs slack millionths period lcmFrom lcm gcd euclid handled called taken grow due total some tasksOf handlersOf
+unfolding figures holds same facts alike expected short searchEnd bound endBy verdictRefusal firstRefusal tableTests load whole work costs slack millionths common lcmFrom lcm gcd euclid handled called taken grow due total some tasksOf handlersOf
 sheet-3 = refl
 
 says-3 : VerdictSays tasks-3 handlers-2 answer-3

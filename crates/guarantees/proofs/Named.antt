@@ -5,14 +5,14 @@ use mathlib.Core.Path.{_≡_, subst}
 use native.Mathlib.Omega.{arith}
 use Prim.Native.Nat.{ℕ, _≤_, _<_}
 use Rattle.demand.proofs.Divide.{le-or-lt}
-use Rattle.demand.proofs.Sizes.{tasks-valid, handlers-positive}
+use Rattle.demand.proofs.Inside.Sizes.{tasks-valid, handlers-positive}
 use Rattle.demand.specs.Limits.{ticksMost}
 use Rattle.demand.specs.Refusals.{tableRefusal, InRange}
 use Rattle.demand.specs.Rows.{Row, Positive, Valid, tasksOf, handlersOf}
 use Rattle.verdict.proofs.Facts.Ends.{end-enough, end-le}
 use Rattle.verdict.proofs.Lengths.{fits-never-fails}
-use Rattle.verdict.proofs.Readable.{readable-in-range, readable-period, readable-table}
-use Rattle.verdict.specs.Multiples.{period}
+use Rattle.verdict.proofs.Readable.{readable-in-range, readable-common, readable-table}
+use Rattle.verdict.specs.Multiples.{common}
 use Rattle.verdict.specs.Promise.{Word, Figures, figures, LeastFailing, SaysMisses, SaysBy, Says, VerdictSays}
 use Rattle.verdict.specs.Promise.Word.{misses}
 use Rattle.verdict.specs.declared.Answer.{Answer}
@@ -23,10 +23,10 @@ unfolding Says SaysBy
 says-misses t h g e s = subst (λ (w : Word). SaysBy w t h g) e s
 
 -- Were it above H, every length up to H would pass, and so all.
-pub least-le-period : (ts hs : List Row) (l : ℕ) → InRange ts hs → LeastFailing ts hs l → l ≤ period ts hs
-least-le-period ts hs l fair shortest = go (le-or-lt l (period ts hs))
+pub least-le-period : (ts hs : List Row) (l : ℕ) → InRange ts hs → LeastFailing ts hs l → l ≤ common ts hs
+least-le-period ts hs l fair shortest = go (le-or-lt l (common ts hs))
   where
-    go : (l ≤ period ts hs) ⊎ (period ts hs < l) → l ≤ period ts hs
+    go : (l ≤ common ts hs) ⊎ (common ts hs < l) → l ≤ common ts hs
     go (inl short) = short
     go (inr long) = absurd (fits-never-fails ts hs l (end-enough ts hs fair (λ m from within. shortest .least m from (omega (arith, end-le ts hs)))) shortest)
 
@@ -52,5 +52,5 @@ module _ (t h : List ℕ) (r : Answer) (says : VerdictSays t h r) (word : figure
       omega (
         arith,
         least-le-period (tasksOf t) (handlersOf h) (figures r .interval) (readable-in-range t h (saying .readable)) named-shortest,
-        readable-period t h (saying .readable),
+        readable-common t h (saying .readable),
       )

@@ -5,12 +5,12 @@ use mathlib.Core.List.{List, [], _∷_}
 use mathlib.Core.Path.{_≡_, sym, ap, subst, _∙_}
 use native.Mathlib.Omega.{arith}
 use Prim.Native.Nat.{ℕ, suc, _≤_}
-use Rattle.demand.proofs.Sizes.{tasks-valid, handlers-positive}
+use Rattle.demand.proofs.Inside.Sizes.{tasks-valid, handlers-positive}
 use Rattle.demand.specs.Demands.{Passes}
 use Rattle.demand.specs.Refusals.{tableRefusal}
 use Rattle.demand.specs.Rows.{Row, Positive, Valid, tasksOf, handlersOf}
 use Rattle.verdict.proofs.Readable.{readable-table}
-use Rattle.verdict.proofs.UnderLess.{says-fits}
+use Rattle.verdict.proofs.Lightening.{says-fits}
 use Rattle.verdict.specs.Promise.{figures, SaysFits, VerdictSays, AlwaysPasses}
 use Rattle.guarantees.specs.NeverLate.{NeverLate}
 use Rattle.machine.specs.Live.{dueOf}

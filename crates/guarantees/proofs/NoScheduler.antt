@@ -3,11 +3,11 @@ use mathlib.Core.List.{List}
 use mathlib.Core.Path.{_≡_, refl}
 use native.Mathlib.Omega.{arith}
 use Prim.Native.Nat.{ℕ, suc}
-use Rattle.demand.proofs.Sizes.{tasks-valid, handlers-positive}
+use Rattle.demand.proofs.Inside.Sizes.{tasks-valid, handlers-positive}
 use Rattle.demand.specs.Refusals.{tableRefusal}
 use Rattle.demand.specs.Rows.{Row, tasksOf, handlersOf}
 use Rattle.verdict.proofs.Readable.{readable-table}
-use Rattle.verdict.proofs.UnderLess.{says-fits}
+use Rattle.verdict.proofs.Lightening.{says-fits}
 use Rattle.verdict.specs.Promise.{Word, figures, AlwaysPasses, SaysFits, SaysBy, Says, VerdictSays}
 use Rattle.verdict.specs.Promise.Word.{fits, misses, refused}
 use Rattle.verdict.specs.declared.Answer.{Answer}

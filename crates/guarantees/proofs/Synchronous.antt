@@ -6,7 +6,7 @@ use mathlib.Core.Path.{_≡_, refl, sym, ap, ap₂, subst, _∙_}
 use native.Mathlib.Omega.{arith}
 use Prim.Native.Nat.{ℕ, zero, suc, _+_, _≤_, _<_}
 use lib.ListN.{length, length-append}
-use Rattle.demand.proofs.Sizes.{tasks-valid, handlers-positive}
+use Rattle.demand.proofs.Inside.Sizes.{tasks-valid, handlers-positive}
 use Rattle.demand.proofs.Sums.{valid-positive}
 use Rattle.demand.specs.Limits.{ticksMost}
 use Rattle.demand.specs.Refusals.{tableRefusal}

@@ -19,7 +19,7 @@ use Rattle.layout.specs.declared.reader.Table.{Table}
 use Rattle.verdict.specs.Promise.{Figures, figures, refusalOf, VerdictSays}
 use Rattle.verdict.specs.declared.Answer.{Answer}
 use Rattle.verdict.specs.declared.Answer.the-variants as answer
-use Rattle.verdict.proofs.Once as verdict
+use Rattle.verdict.proofs.Promise as verdict
 use Rattle.layout.proofs.File.{says-unique}
 use Rattle.layout.proofs.Table.{listed, flat-listed}
 use Rattle.text.proofs.Writes.{text-fits}

@@ -7,16 +7,17 @@ use native.Mathlib.Omega.{arith}
 use borrow.Author.Tests.{lt-ltb, le-ltb, ltb-true, ltb-false}
 use lib.Dec.{ltb}
 use lib.ListN.{length}
-use Prim.Native.Nat.{ℕ, _+_, _*_, _/_, _≤_, _<_}
+use Prim.Native.Nat.{ℕ, _*_, _/_, _≤_, _<_}
+use Rattle.demand.specs.Inside.Sizes.{rowMost}
 use Rattle.demand.specs.Limits.{figureMost, ticksMost}
 use Rattle.demand.specs.Refusals.{tableRefusal, FairRow}
 use Rattle.demand.specs.Rows.{Row, rowsOf, width, tasksOf, handlersOf, Each, rest}
 use Rattle.demand.specs.Tests.{pick}
 use Rattle.demand.specs.declared.table.Kind.{Kind}
-use Rattle.demand.proofs.Sizes.{fair-positive, tasks-valid, handlers-positive}
+use Rattle.demand.proofs.Inside.Sizes.{fair-positive, tasks-valid, handlers-positive}
 use Rattle.demand.proofs.Slices.{rows-short, from, from-width, each-head}
 use Rattle.demand.proofs.Sums.{valid-positive}
-use Rattle.verdict.specs.Multiples.{gcd, lcm, lcmFrom, period, capped}
+use Rattle.verdict.specs.Multiples.{gcd, lcm, lcmFrom, common, capped}
 use Rattle.verdict.proofs.Divisors.{lcm-from-nil, lcm-from-cons, lcm-from-le, lcm-from-positive, lcm-positive}
 
 module _ (kind : Kind) (s : List ℕ) (h : length s < width kind) where
@@ -41,7 +42,7 @@ pub lcm-read : (a g p : ℕ) → g ≡ gcd a p → a / g * p ≡ lcm a p
 unfolding lcm
 lcm-read a g p e = rw e
 
-pub lcm-fits : (a g p : ℕ) → a ≤ ticksMost → p ≤ figureMost → a / g * p ≤ 1000000000000000
+pub lcm-fits : (a g p : ℕ) → a ≤ ticksMost → p ≤ figureMost → a / g * p ≤ rowMost
 lcm-fits a g p ha hp = mul-le-mul (le-trans (div-le-self a g) ha) hp
 
 -- What a capped multiple says.
@@ -63,9 +64,9 @@ capped-some m r pos e = go (ltb ticksMost m) refl e
 
 module _ (t h : List ℕ) (e : tableRefusal t h ≡ 0) where
   -- The tasks' multiple above the limit: H is too.
-  pub period-over : 0 ≡ capped (lcmFrom 1 (tasksOf t)) → 0 ≡ capped (period (tasksOf t) (handlersOf h))
-  unfolding period
-  period-over none =
+  pub common-over : 0 ≡ capped (lcmFrom 1 (tasksOf t)) → 0 ≡ capped (common (tasksOf t) (handlersOf h))
+  unfolding common
+  common-over none =
       let some : 0 < lcmFrom 1 (tasksOf t) = lcm-from-positive 1 (tasksOf t) (omega arith) (valid-positive (tasksOf t) (tasks-valid t h e)) in
       let over : ticksMost < lcmFrom 1 (tasksOf t) = capped-zero (lcmFrom 1 (tasksOf t)) some none in
       let whole = lcm-from-le (lcmFrom 1 (tasksOf t)) (handlersOf h) some (handlers-positive t h e) in
@@ -75,6 +76,6 @@ module _ (t h : List ℕ) (e : tableRefusal t h ≡ 0) where
     pub tasks-multiple : a ≤ ticksMost
     tasks-multiple = let c = capped-some (lcmFrom 1 (tasksOf t)) a some ea in omega arith
 
-    pub period-read : (r : ℕ) → r ≡ capped (lcmFrom a (handlersOf h)) → r ≡ capped (period (tasksOf t) (handlersOf h))
-    unfolding period
-    period-read r er = er ∙ ap (λ (m : ℕ). capped (lcmFrom m (handlersOf h))) (capped-some (lcmFrom 1 (tasksOf t)) a some ea .0)
+    pub common-read : (r : ℕ) → r ≡ capped (lcmFrom a (handlersOf h)) → r ≡ capped (common (tasksOf t) (handlersOf h))
+    unfolding common
+    common-read r er = er ∙ ap (λ (m : ℕ). capped (lcmFrom m (handlersOf h))) (capped-some (lcmFrom 1 (tasksOf t)) a some ea .0)

@@ -21,13 +21,14 @@ use Rattle.demand.specs.Tests.{firstRefusal}
 use Rattle.demand.specs.Rows.{Row, tasksOf, handlersOf, total, some}
 use Rattle.demand.proofs.Divide.{le-or-lt}
 use Rattle.verdict.specs.Cases.{Case, plain, cases, CaseHolds, EveryCase}
-use Rattle.verdict.specs.Facts.{PassesTo, bound, endBy, searchEnd}
+use Rattle.verdict.specs.Inside.Search.{endBy, searchEnd}
+use Rattle.verdict.specs.Facts.{PassesTo, bound}
 use Rattle.verdict.specs.Loads.{work, whole, costs, slack, millionths, load}
-use Rattle.verdict.specs.Multiples.{euclid, gcd, lcm, lcmFrom, period}
+use Rattle.verdict.specs.Multiples.{euclid, gcd, lcm, lcmFrom, common}
 use Rattle.verdict.specs.Promise.{Word, Figures, figures, yesOf, noOf, refusalOf, numbersOf, missAt, verdictRefusal, SaysBy, Says, VerdictSays}
 use Rattle.verdict.specs.Promise.Word.{fits, misses, refused}
 use Rattle.verdict.proofs.Facts.Ends.{end-enough}
-use Rattle.verdict.proofs.Once.{figures-same, says-unique}
+use Rattle.verdict.proofs.Promise.{figures-same, says-unique}
 use Rattle.verdict.proofs.Readable.{readable-in-range}
 
 -- ---- pairs of figures
@@ -156,7 +157,7 @@ every-case (c ∷ cs) e =
 
 -- The one computation: here the definitions are opened, crate demand's too, since only numbers are left to find.
 all-hold : allHold cases ≡ true
-unfolding allHold holds same facts alike expected short plain cases searchEnd bound endBy verdictRefusal firstRefusal tableTests load whole work costs slack millionths period lcmFrom lcm gcd euclid handled called taken grow due total some tasksOf handlersOf
+unfolding allHold holds same facts alike expected short plain cases searchEnd bound endBy verdictRefusal firstRefusal tableTests load whole work costs slack millionths common lcmFrom lcm gcd euclid handled called taken grow due total some tasksOf handlersOf
 all-hold = refl
 
 pub cases-hold : EveryCase cases

@@ -28,7 +28,7 @@ use native.Mathlib.Omega.{arith}
 use Prim.Native.Nat.{ℕ, zero, suc, _-_, _*_, _/_, _%_, _≤_, _<_, _∣_}
 use Rattle.demand.specs.Rows.{Row, Positive}
 use Rattle.demand.proofs.Sums.{each-map}
-use Rattle.verdict.specs.Multiples.{euclid, gcd, lcm, lcmFrom, period, Divided, LeastMultiple}
+use Rattle.verdict.specs.Multiples.{euclid, gcd, lcm, lcmFrom, common, Divided, LeastMultiple}
 
 pub record IsGcd (a b g : ℕ) : Type 0 where
   pub left : g ∣ a
@@ -165,27 +165,27 @@ lcm-from-le a rs pos all = le-of-dvd (lcm-from-positive a rs pos all) (lcm-from-
 
 -- ---- H
 
-pub period-positive : (ts hs : List Row) → Positive ts → Positive hs → 0 < period ts hs
-unfolding period
-period-positive ts hs pt ph = lcm-from-positive (lcmFrom 1 ts) hs (lcm-from-positive 1 ts (omega arith) pt) ph
+pub common-positive : (ts hs : List Row) → Positive ts → Positive hs → 0 < common ts hs
+unfolding common
+common-positive ts hs pt ph = lcm-from-positive (lcmFrom 1 ts) hs (lcm-from-positive 1 ts (omega arith) pt) ph
 
-pub period-tasks : (ts hs : List Row) → Divided (period ts hs) ts
-unfolding period
-period-tasks ts hs = each-map (λ r d. dvd-trans (r .period) d (lcm-from-start (lcmFrom 1 ts) hs)) ts (lcm-from-rows 1 ts)
+pub common-tasks : (ts hs : List Row) → Divided (common ts hs) ts
+unfolding common
+common-tasks ts hs = each-map (λ r d. dvd-trans (r .period) d (lcm-from-start (lcmFrom 1 ts) hs)) ts (lcm-from-rows 1 ts)
 
-pub period-handlers : (ts hs : List Row) → Divided (period ts hs) hs
-unfolding period
-period-handlers ts hs = lcm-from-rows (lcmFrom 1 ts) hs
+pub common-handlers : (ts hs : List Row) → Divided (common ts hs) hs
+unfolding common
+common-handlers ts hs = lcm-from-rows (lcmFrom 1 ts) hs
 
-pub period-divides : (ts hs : List Row) (n : ℕ) → Positive ts → Positive hs → Divided n ts → Divided n hs → period ts hs ∣ n
-unfolding period
+pub period-divides : (ts hs : List Row) (n : ℕ) → Positive ts → Positive hs → Divided n ts → Divided n hs → common ts hs ∣ n
+unfolding common
 period-divides ts hs n pt ph dt dh =
     lcm-from-least (lcmFrom 1 ts) n hs (lcm-from-positive 1 ts (omega arith) pt) ph (lcm-from-least 1 n ts (omega arith) pt (one-dvd n) dt) dh
 
-pub period-least : (ts hs : List Row) → Positive ts → Positive hs → LeastMultiple ts hs (period ts hs)
-period-least ts hs pt ph = record {
-  positive = period-positive ts hs pt ph;
-  tasks = period-tasks ts hs;
-  handlers = period-handlers ts hs;
+pub common-least : (ts hs : List Row) → Positive ts → Positive hs → LeastMultiple ts hs (common ts hs)
+common-least ts hs pt ph = record {
+  positive = common-positive ts hs pt ph;
+  tasks = common-tasks ts hs;
+  handlers = common-handlers ts hs;
   least = λ n pos dt dh. le-of-dvd pos (period-divides ts hs n pt ph dt dh);
 }

@@ -11,10 +11,10 @@ use Rattle.demand.specs.Rows.{Row, tasksOf, handlersOf, total, some}
 use Rattle.demand.proofs.Demands.{called-nil, handled-le-called, passes-or-fails}
 use Rattle.verdict.specs.Cases.{plain, dyeHouse, CaseHolds}
 use Rattle.verdict.specs.Loads.{work, whole, slack, millionths, load}
-use Rattle.verdict.specs.Multiples.{euclid, gcd, lcm, lcmFrom, period}
+use Rattle.verdict.specs.Multiples.{euclid, gcd, lcm, lcmFrom, common}
 use Rattle.verdict.specs.Promise.{figures, noOf, verdictRefusal, SaysBy, Says, VerdictSays}
-use Rattle.verdict.proofs.Divisors.{period-tasks}
-use Rattle.verdict.proofs.Once.{says-unique}
+use Rattle.verdict.proofs.Divisors.{common-tasks}
+use Rattle.verdict.proofs.Promise.{says-unique}
 use Rattle.verdict.proofs.Readable.{readable-in-range}
 use Rattle.verdict.proofs.Facts.Shares.{due-share}
 
@@ -22,12 +22,12 @@ abbrev ts : List Row
 ts = tasksOf (dyeHouse .tasks)
 
 readable : verdictRefusal (dyeHouse .tasks) [] ≡ 0
-unfolding dyeHouse verdictRefusal firstRefusal tableTests period lcmFrom lcm gcd euclid total some plain tasksOf handlersOf
+unfolding dyeHouse verdictRefusal firstRefusal tableTests common lcmFrom lcm gcd euclid total some plain tasksOf handlersOf
 readable = refl
 
 -- H, and W one above it
-h-is : period ts [] ≡ 999999000
-unfolding dyeHouse period lcmFrom lcm gcd euclid plain tasksOf
+h-is : common ts [] ≡ 999999000
+unfolding dyeHouse common lcmFrom lcm gcd euclid plain tasksOf
 h-is = refl
 
 w-is : work 999999000 ts ≡ 999999001
@@ -43,7 +43,7 @@ unfolding dyeHouse due total plain tasksOf
 due-is = refl
 
 load-is : load ts [] ≡ 1000001
-unfolding dyeHouse load whole work millionths period lcmFrom lcm gcd euclid total plain tasksOf
+unfolding dyeHouse load whole work millionths common lcmFrom lcm gcd euclid total plain tasksOf
 load-is = refl
 
 none : (l : ℕ) → handled [] l ≡ 0
@@ -53,8 +53,8 @@ none l = omega (arith, handled-le-called [] l, called-nil l)
 below : (l : ℕ) → l < 999999000 → Passes ts [] l
 below l short = go (passes-or-fails ts [] l)
   where
-    share : period ts [] * due ts l ≤ l * work (period ts []) ts + slack (period ts []) ts
-    share = due-share (period ts []) l ts (readable-in-range (dyeHouse .tasks) [] readable .deadlines) (period-tasks ts [])
+    share : common ts [] * due ts l ≤ l * work (common ts []) ts + slack (common ts []) ts
+    share = due-share (common ts []) l ts (readable-in-range (dyeHouse .tasks) [] readable .deadlines) (common-tasks ts [])
 
     go : Passes ts [] l ⊎ Fails ts [] l → Passes ts [] l
     go (inl passes) = passes

@@ -6,7 +6,7 @@ use Prim.Native.Nat.{ℕ}
 use Rattle.demand.specs.Rows.{tasksOf, handlersOf}
 use Rattle.verdict.specs.Full.{LoadTells}
 use Rattle.verdict.specs.Loads.{whole, load}
-use Rattle.verdict.specs.Multiples.{period}
+use Rattle.verdict.specs.Multiples.{common}
 use Rattle.verdict.specs.Promise.{Word, Figures, figures, verdictRefusal, SaysBy, Says, VerdictSays}
 use Rattle.verdict.specs.Promise.Word.{fits, misses, refused}
 use Rattle.verdict.proofs.Loads.{millionths-full}
@@ -26,5 +26,5 @@ pub load-tells : LoadTells
 unfolding LoadTells VerdictSays load
 load-tells t h r says readable =
     let same = says-load t h (figures r) readable says in
-    let full = millionths-full (whole (tasksOf t) (handlersOf h)) (period (tasksOf t) (handlersOf h)) (readable-positive t h readable) in
+    let full = millionths-full (whole (tasksOf t) (handlersOf h)) (common (tasksOf t) (handlersOf h)) (readable-positive t h readable) in
     (λ few. full .0 (omega arith), λ light. omega (arith, full .1 light))

@@ -3,8 +3,8 @@ pub mod Loads
 pub mod Readable
 pub mod Facts
 pub mod Lengths
-pub mod Once
-pub mod UnderLess
+pub mod Promise
+pub mod Lightening
 pub mod Full
 pub mod Cases
 pub mod DyeHouse

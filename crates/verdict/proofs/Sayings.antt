@@ -7,25 +7,26 @@ use Prim.Native.Nat.{ℕ, _+_, _*_, _≤_, _<_}
 use Rattle.demand.specs.Limits.{ticksMost}
 use Rattle.demand.specs.Refusals.{tableRefusal}
 use Rattle.demand.specs.Rows.{Row, tasksOf, handlersOf}
-use Rattle.demand.proofs.Sizes.{tasks-valid, handlers-positive}
+use Rattle.demand.proofs.Inside.Sizes.{tasks-valid, handlers-positive}
 use Rattle.demand.proofs.Sums.{valid-positive}
-use Rattle.verdict.specs.Facts.{PassesTo, FoundAt, FoundSays, bound, endBy, searchEnd}
-use Rattle.verdict.specs.Loads.{work, whole, costs, slack, millionths, load}
-use Rattle.verdict.specs.Multiples.{period, capped}
+use Rattle.verdict.specs.Inside.Search.{FoundAt, FoundSays, endBy, searchEnd}
+use Rattle.verdict.specs.Facts.{PassesTo, bound}
+use Rattle.verdict.specs.Loads.{work, whole, costs, slack, millionths, load, workMost}
+use Rattle.verdict.specs.Multiples.{common, capped}
 use Rattle.verdict.specs.Promise.{figures, yesOf, noOf, refusalOf, verdictRefusal, SaysBy, Says, VerdictSays}
 use Rattle.verdict.specs.declared.Answer.the-variants as answer
 use Rattle.verdict.specs.declared.Miss.{Miss}
 use Rattle.verdict.specs.declared.search.Found.{Found}
 use Rattle.verdict.specs.declared.search.Found.the-variants as found
-use Rattle.verdict.proofs.Divisors.{period-positive}
+use Rattle.verdict.proofs.Divisors.{common-positive}
 use Rattle.verdict.proofs.Facts.Ends.{end-le, end-enough}
 use Rattle.verdict.proofs.Capped.{capped-zero, capped-some}
 use Rattle.verdict.proofs.Loads.{work-most, costs-most, slack-most}
-use Rattle.verdict.proofs.Readable.{readable-in-range, readable-period, readable-zero, period-small, refused-4, refused-table}
+use Rattle.verdict.proofs.Readable.{readable-in-range, readable-common, readable-zero, common-small, refused-4, refused-table}
 
 -- ---- W, the load and the end, of the H in hand
 
-module _ (ts hs : List Row) (h w v : ℕ) (eh : h ≡ period ts hs) (ew : w ≡ work h ts) (ev : v ≡ work h hs) where
+module _ (ts hs : List Row) (h w v : ℕ) (eh : h ≡ common ts hs) (ew : w ≡ work h ts) (ev : v ≡ work h hs) where
   pub whole-read : w + v ≡ whole ts hs
   unfolding whole
   whole-read = rw (ew, ev, eh)
@@ -40,10 +41,10 @@ module _ (ts hs : List Row) (h w v : ℕ) (eh : h ≡ period ts hs) (ew : w ≡ 
 
 -- ---- on a readable table they fit
 
-module _ (t h : List ℕ) (readable : verdictRefusal t h ≡ 0) (m : ℕ) (em : m ≡ period (tasksOf t) (handlersOf h)) where
-  pub whole-most : (w v : ℕ) → w ≡ work m (tasksOf t) → v ≡ work m (handlersOf h) → (w + v ≤ 128000000 * m) × (0 < m) × (m ≤ ticksMost)
+module _ (t h : List ℕ) (readable : verdictRefusal t h ≡ 0) (m : ℕ) (em : m ≡ common (tasksOf t) (handlersOf h)) where
+  pub whole-most : (w v : ℕ) → w ≡ work m (tasksOf t) → v ≡ work m (handlersOf h) → (w + v ≤ workMost * m) × (0 < m) × (m ≤ ticksMost)
   whole-most w v ew ev =
-      let small = period-small t h readable m em in
+      let small = common-small t h readable m em in
       let tasks = work-most m 64 (tasksOf t) (small .1 .rows) (small .1 .count) in
       let handlers = work-most m 64 (handlersOf h) (small .2 .rows) (small .2 .count) in
       (omega arith, small .0, small .1 .ticks)
@@ -51,12 +52,12 @@ module _ (t h : List ℕ) (readable : verdictRefusal t h ≡ 0) (m : ℕ) (em : 
   -- E times H, and what short deadlines add: each below a million million million.
   pub bound-fits : (e s : ℕ) → e ≡ costs (handlersOf h) → s ≡ slack m (tasksOf t) → (e * m ≤ 1000000000000000000) × (s ≤ 1000000000000000000)
   bound-fits e s ee es =
-      let small = period-small t h readable m em in
+      let small = common-small t h readable m em in
       let costs : e ≤ 1000000000 = omega (arith, costs-most (handlersOf h) (small .2 .rows), small .2 .count) in
       (mul-le-mul costs (small .1 .ticks), omega (arith, slack-most m 64 (tasksOf t) (small .1 .rows) (small .1 .count), small .1 .ticks))
 
   pub end-fits : (n : ℕ) → n ≡ searchEnd (tasksOf t) (handlersOf h) → n ≤ ticksMost
-  end-fits n en = omega (arith, end-le (tasksOf t) (handlersOf h), readable-period t h readable)
+  end-fits n en = omega (arith, end-le (tasksOf t) (handlersOf h), readable-common t h readable)
 
 -- ---- the three answers
 
@@ -68,16 +69,16 @@ module _ (t h : List ℕ) where
       record { unreadable = omega (arith, same); figures = ap refusalOf (e ∙ sym same) }
 
   module _ (e : tableRefusal t h ≡ 0) where
-    pub says-refused-4 : (m : ℕ) → m ≡ capped (period (tasksOf t) (handlersOf h)) → m ≡ 0 → VerdictSays t h (answer.Refused 4)
+    pub says-refused-4 : (m : ℕ) → m ≡ capped (common (tasksOf t) (handlersOf h)) → m ≡ 0 → VerdictSays t h (answer.Refused 4)
     unfolding VerdictSays Says SaysBy figures
     says-refused-4 m em none =
-        let pos = period-positive (tasksOf t) (handlersOf h) (valid-positive (tasksOf t) (tasks-valid t h e)) (handlers-positive t h e) in
-        let four = refused-4 t h e (capped-zero (period (tasksOf t) (handlersOf h)) pos (sym none ∙ em)) in
+        let pos = common-positive (tasksOf t) (handlersOf h) (valid-positive (tasksOf t) (tasks-valid t h e)) (handlers-positive t h e) in
+        let four = refused-4 t h e (capped-zero (common (tasksOf t) (handlersOf h)) pos (sym none ∙ em)) in
         record { unreadable = omega (arith, four); figures = ap refusalOf (sym four) }
 
-    pub says-readable : (m : ℕ) → m ≡ capped (period (tasksOf t) (handlersOf h)) → 0 < m → (verdictRefusal t h ≡ 0) × (m ≡ period (tasksOf t) (handlersOf h))
+    pub says-readable : (m : ℕ) → m ≡ capped (common (tasksOf t) (handlersOf h)) → 0 < m → (verdictRefusal t h ≡ 0) × (m ≡ common (tasksOf t) (handlersOf h))
     says-readable m em some =
-        let within = capped-some (period (tasksOf t) (handlersOf h)) m some em in
+        let within = capped-some (common (tasksOf t) (handlersOf h)) m some em in
         (readable-zero t h e (within .1), within .0)
 
   module _ (readable : verdictRefusal t h ≡ 0) (l n : ℕ) (el : l ≡ load (tasksOf t) (handlersOf h)) (en : n ≡ searchEnd (tasksOf t) (handlersOf h)) where

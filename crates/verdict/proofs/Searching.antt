@@ -9,8 +9,9 @@ use Rattle.demand.specs.Rows.{Row, Valid}
 use Rattle.demand.specs.Inside.Walk.{nextDeadline}
 use Rattle.demand.proofs.Demands.{passes-zero}
 use Rattle.demand.proofs.Divide.{le-or-lt}
-use Rattle.demand.proofs.Walks.{next-above, passes-walk}
-use Rattle.verdict.specs.Facts.{PassesTo, FoundAt}
+use Rattle.demand.proofs.Inside.Walk.{next-above, passes-walk}
+use Rattle.verdict.specs.Inside.Search.{FoundAt}
+use Rattle.verdict.specs.Facts.{PassesTo}
 
 -- Before the first tick nothing has been asked.
 pub passes-start : (ts hs : List Row) → PassesTo ts hs 0

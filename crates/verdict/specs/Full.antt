@@ -5,7 +5,7 @@ use mathlib.Core.Path.{_≡_}
 use Prim.Native.Nat.{ℕ, _≤_}
 use Rattle.demand.specs.Rows.{tasksOf, handlersOf}
 use Rattle.verdict.specs.Loads.{whole}
-use Rattle.verdict.specs.Multiples.{period}
+use Rattle.verdict.specs.Multiples.{common}
 use Rattle.verdict.specs.Promise.{figures, verdictRefusal, VerdictSays}
 use Rattle.verdict.specs.declared.Answer.{Answer}
 
@@ -13,5 +13,5 @@ unfoldable pub LoadTells : Type 0
 LoadTells =
     (t h : List ℕ) (r : Answer)
     → VerdictSays t h r → verdictRefusal t h ≡ 0
-    → (figures r .load ≤ 1000000 → whole (tasksOf t) (handlersOf h) ≤ period (tasksOf t) (handlersOf h))
-    × (whole (tasksOf t) (handlersOf h) ≤ period (tasksOf t) (handlersOf h) → figures r .load ≤ 1000000)
+    → (figures r .load ≤ 1000000 → whole (tasksOf t) (handlersOf h) ≤ common (tasksOf t) (handlersOf h))
+    × (whole (tasksOf t) (handlersOf h) ≤ common (tasksOf t) (handlersOf h) → figures r .load ≤ 1000000)

@@ -1,8 +1,19 @@
+-- Contents, in 01's order. What a reader must believe of the verdict:
+-- H, the least common multiple of all periods
 pub mod Multiples
+-- W, E, what short deadlines add, and the load
 pub mod Loads
+-- what the verdict promises: refusals, yes, no, and their figures
 pub mod Promise
-pub mod Facts
+-- only test lengths can be the least that fails
 pub mod Lengths
-pub mod Lightening
+-- the facts that end the search
+pub mod Facts
+-- what a load says (M-100)
 pub mod Full
+-- a yes holds under less (00, demand 3)
+pub mod Lightening
+-- cases 1 to 12, and cases with short deadlines
 pub mod Cases
+-- what no promise cites
+pub mod Inside

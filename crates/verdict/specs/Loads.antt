@@ -4,11 +4,12 @@
 --   costs hs      == E, the sum of handler costs
 --   slack m ts    == the sum of cost, m / period and (period - deadline) multiplied, over ts
 --   load ts hs    == 1,000,000 times W / H, rounded up
+--   workMost      == the most work for each tick: 1,000,000 of each of two full lists of 64 rows
 use mathlib.Core.List.{List}
 use Prim.Native.Nat.{ℕ, _+_, _-_, _*_, _/_}
 use Rattle.demand.specs.Demands.{ceil}
 use Rattle.demand.specs.Rows.{Row, total}
-use Rattle.verdict.specs.Multiples.{period}
+use Rattle.verdict.specs.Multiples.{common}
 
 -- what one row brings in m ticks, for whole periods
 abbrev pub workBy : ℕ → Row → ℕ
@@ -18,7 +19,7 @@ unfoldable pub work : ℕ → List Row → ℕ
 work m rs = total (workBy m) rs
 
 unfoldable pub whole : List Row → List Row → ℕ
-whole ts hs = work (period ts hs) ts + work (period ts hs) hs
+whole ts hs = work (common ts hs) ts + work (common ts hs) hs
 
 unfoldable pub costs : List Row → ℕ
 costs hs = total (λ r. r .cost) hs
@@ -34,5 +35,8 @@ slack m ts = total (slackBy m) ts
 unfoldable pub millionths : ℕ → ℕ → ℕ
 millionths w h = ceil (1000000 * w) h
 
+abbrev pub workMost : ℕ
+workMost = 128000000
+
 unfoldable pub load : List Row → List Row → ℕ
-load ts hs = millionths (whole ts hs) (period ts hs)
+load ts hs = millionths (whole ts hs) (common ts hs)

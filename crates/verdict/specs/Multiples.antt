@@ -2,10 +2,10 @@
 --   gcd a b           == the greatest common divisor, by Euclid's remainder rule
 --   lcm a b           == the least common multiple, by it
 --   lcmFrom a rs      == the least common multiple of a and the periods of rs, row by row
---   period ts hs      == H of a table
+--   common ts hs      == H of a table
 --   capped m          == m, or 0 where it is above 1,000,000,000
 --   Divided n rs      n is a multiple of every period of rs
---   LeastMultiple ts hs m   m is the least common multiple of all periods: a statement about period
+--   LeastMultiple ts hs m   m is the least common multiple of all periods: a statement about common
 use mathlib.Core.List.{List, [], _∷_}
 use Prim.Native.Nat.{ℕ, zero, suc, _*_, _/_, _%_, _≤_, _<_, _∣_}
 use lib.Dec.{ltb}
@@ -29,8 +29,8 @@ unfoldable pub lcmFrom : ℕ → List Row → ℕ
 lcmFrom a [] = a
 lcmFrom a (r ∷ rs) = lcmFrom (lcm a (r .period)) rs
 
-unfoldable pub period : List Row → List Row → ℕ
-period ts hs = lcmFrom (lcmFrom 1 ts) hs
+unfoldable pub common : List Row → List Row → ℕ
+common ts hs = lcmFrom (lcmFrom 1 ts) hs
 
 abbrev pub capped : ℕ → ℕ
 capped m = pick (ltb ticksMost m) 0 m

@@ -18,14 +18,14 @@ use Rattle.demand.specs.Refusals.{tableTests}
 use Rattle.demand.specs.Rows.{Row, tasksOf, handlersOf}
 use Rattle.demand.specs.Tests.{firstRefusal}
 use Rattle.verdict.specs.Loads.{load}
-use Rattle.verdict.specs.Multiples.{period}
+use Rattle.verdict.specs.Multiples.{common}
 use Rattle.verdict.specs.declared.Answer.{Answer}
 use Rattle.verdict.specs.declared.Answer.the-variants as answer
 use Rattle.verdict.specs.declared.Miss.{Miss}
 
 -- 4: H is above 1,000,000,000
 unfoldable pub verdictRefusal : List ℕ → List ℕ → ℕ
-verdictRefusal t h = firstRefusal (tableTests t h ++ ((4, ltb ticksMost (period (tasksOf t) (handlersOf h))) ∷ []))
+verdictRefusal t h = firstRefusal (tableTests t h ++ ((4, ltb ticksMost (common (tasksOf t) (handlersOf h))) ∷ []))
 
 unfoldable pub AlwaysPasses : List Row → List Row → Type 0
 AlwaysPasses ts hs = (l : ℕ) → 1 ≤ l → Passes ts hs l

@@ -4,7 +4,7 @@ mod multiples;
 mod search;
 
 ghost use mathlib.Core.Path.{_≡_};
-ghost use Rattle.verdict.specs.Multiples.{period};
+ghost use Rattle.verdict.specs.Multiples.{common};
 ghost use Rattle.verdict.specs.Promise.{verdictRefusal, answerNumbers, VerdictSays};
 ghost use Rattle.demand.specs.Rows.{tasksOf, handlersOf};
 use demand::table::Kind;
@@ -55,7 +55,7 @@ pub fn verdict(tasks: &[u32], handlers: &[u32]) -> Answer
 
 // The verdict on a readable table, whose H is h.
 fn judged(tasks: &[u32], handlers: &[u32], h: u64) -> Answer
-    requires { ⌜ (verdictRefusal (now tasks) (now handlers) ≡ 0) × (h ≡ period (tasksOf (now tasks)) (handlersOf (now handlers))) ⌝ }
+    requires { ⌜ (verdictRefusal (now tasks) (now handlers) ≡ 0) × (h ≡ common (tasksOf (now tasks)) (handlersOf (now handlers))) ⌝ }
     ensures { λ r. ⌜ VerdictSays (now (tasks .entry)) (now (handlers .entry)) r ⌝ }
 {
     let w = load::work(Kind::Task, tasks, h) + load::work(Kind::Handler, handlers, h);

@@ -3,8 +3,8 @@ ghost use mathlib.Core.Path.{_≡_};
 ghost use Prim.Native.Nat.{_*_, _<_, _≤_};
 ghost use Rattle.demand.specs.Limits.{ticksMost};
 ghost use Rattle.demand.specs.Rows.{rowsOf, tasksOf, handlersOf, Valid};
-ghost use Rattle.demand.specs.Inside.Walk.{Small};
-ghost use Rattle.verdict.specs.Loads.{work, costs, slack, millionths};
+ghost use Rattle.demand.specs.Inside.Sizes.{Small};
+ghost use Rattle.verdict.specs.Loads.{work, costs, slack, millionths, workMost};
 use demand::table;
 use demand::table::Kind;
 
@@ -50,12 +50,15 @@ pub fn slack(tasks: &[u32], h: u64) -> u64
     task.cost * (h / task.period) * (task.period - task.deadline) + rest
 }
 
+// Loads are told in millionths.
+const MILLION: u64 = 1_000_000;
+
 // 1,000,000 times w / h, rounded up: the whole part and the rest apart, so that nothing overflows.
 pub fn of_work(w: u64, h: u64) -> u64
-    requires { ⌜ (w ≤ 128000000 * h) × (0 < h) × (h ≤ ticksMost) ⌝ }
+    requires { ⌜ (w ≤ workMost * h) × (0 < h) × (h ≤ ticksMost) ⌝ }
     ensures { λ r. ⌜ r ≡ millionths w h ⌝ }
 {
     let q = w / h;
     let r = w % h;
-    1000000 * q + (1000000 * r + (h - 1)) / h
+    MILLION * q + (MILLION * r + (h - 1)) / h
 }

@@ -4,7 +4,7 @@ ghost use Prim.Native.Nat.{_≤_, _<_};
 ghost use Rattle.demand.specs.Limits.{ticksMost};
 ghost use Rattle.demand.specs.Refusals.{tableRefusal, FairRow};
 ghost use Rattle.demand.specs.Rows.{rowsOf, tasksOf, handlersOf, Each};
-ghost use Rattle.verdict.specs.Multiples.{gcd, lcmFrom, period, capped};
+ghost use Rattle.verdict.specs.Multiples.{gcd, lcmFrom, common, capped};
 use demand::table;
 use demand::table::Kind;
 use demand::table::TICKS_MOST;
@@ -36,7 +36,7 @@ fn lcm_from(kind: Kind, s: &[u32], a: u64) -> u64
 // H of a table whose rows are in range.
 pub fn of_table(tasks: &[u32], handlers: &[u32]) -> u64
     requires { ⌜ tableRefusal (now tasks) (now handlers) ≡ 0 ⌝ }
-    ensures { λ r. ⌜ r ≡ capped (period (tasksOf (now (tasks .entry))) (handlersOf (now (handlers .entry)))) ⌝ }
+    ensures { λ r. ⌜ r ≡ capped (common (tasksOf (now (tasks .entry))) (handlersOf (now (handlers .entry)))) ⌝ }
 {
     let a = lcm_from(Kind::Task, tasks, 1);
     if a == 0 {

@@ -4,7 +4,7 @@ ghost use Prim.Native.Nat.{_≤_};
 ghost use Rattle.demand.specs.Limits.{ticksMost};
 ghost use Rattle.demand.specs.Refusals.{tableRefusal};
 ghost use Rattle.demand.specs.Rows.{tasksOf, handlersOf};
-ghost use Rattle.verdict.specs.Facts.{endBy, FoundSays};
+ghost use Rattle.verdict.specs.Inside.Search.{FoundSays, endBy};
 use crate::Miss;
 use demand::readable;
 

@@ -1,6 +1,6 @@
 use mathlib.Core.Path.{sym, _∙_}
 use native.Mathlib.Omega.{arith}
-use Rattle.demand.proofs.Answered.{demand-answered, demand-refused}
+use Rattle.demand.proofs.Answers.{demand-answered, demand-refused}
 use Rattle.demand.proofs.Demands.{handled-zero}
 use borrow.Author.Needs.{needs}
 use Rattle.demand.proofs.handler_demand.Statement.{statement}

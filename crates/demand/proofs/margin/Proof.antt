@@ -3,10 +3,10 @@ use mir.Syntax.{w64}
 use mir.ValLaws.{toZ-ofZ}
 use native.Mathlib.Omega.{arith}
 use Rattle.demand.specs.Rows.{handlersOf}
-use Rattle.demand.proofs.Answered.{margin-answered, margin-refused}
+use Rattle.demand.proofs.Answers.{margin-answered, margin-refused}
 use Rattle.demand.proofs.Demands.{handled-zero, handled-le}
 use Rattle.demand.proofs.Signs.{margin-read}
-use Rattle.demand.proofs.Sizes.{tasks-small, due-most}
+use Rattle.demand.proofs.Inside.Sizes.{tasks-small, due-most}
 use borrow.Author.Needs.{needs}
 use Rattle.demand.proofs.margin.Statement.{statement}
 use Rattle.demand.proofs.margin.Tie as tie

@@ -1,5 +1,5 @@
 use mathlib.Core.Path.{sym, _∙_}
-use Rattle.demand.proofs.Answered.{demand-answered, demand-refused}
+use Rattle.demand.proofs.Answers.{demand-answered, demand-refused}
 use borrow.Author.Needs.{needs}
 use Rattle.demand.proofs.task_demand.Statement.{statement}
 use Rattle.demand.proofs.task_demand.Tie as tie

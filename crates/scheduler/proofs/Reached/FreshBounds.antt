@@ -11,7 +11,7 @@ use lib.ListN.{length, getD, drop, replicate, length-append, length-replicate, g
 use lib.Seq.{drop-at}
 use Rattle.demand.proofs.Divide.{le-or-lt}
 use Rattle.demand.proofs.Places.{rows-append, each-at}
-use Rattle.demand.proofs.Refused.{row-inside, deadline-inside}
+use Rattle.demand.proofs.Refusals.{row-inside, deadline-inside}
 use Rattle.demand.specs.Limits.{tasksMost, handlersMost}
 use Rattle.demand.specs.Refusals.{tableRefusal, FairRow}
 use Rattle.demand.specs.Rows.{Row, rowsOf, width, tasksOf, handlersOf, rowAt, noRow, Sound}

@@ -10,7 +10,7 @@ use Prim.Native.Nat.{ℕ, _+_, _-_, _*_, _≤_, _<_}
 use lib.Dec.{ltb, leb}
 use lib.ListN.{length, getD}
 use Rattle.demand.proofs.Divide.{le-or-lt}
-use Rattle.demand.proofs.Refused.{fair-row, sound-row}
+use Rattle.demand.proofs.Refusals.{fair-row, sound-row}
 use Rattle.demand.specs.Limits.{ticksMost}
 use Rattle.demand.specs.Refusals.{rowOutside, deadlineOutside, FairRow}
 use Rattle.demand.specs.Rows.{Row, tasksOf, handlersOf, rowAt, Sound}

@@ -10,7 +10,7 @@ use Prim.Native.Nat.{ℕ, _+_, _-_, _*_, _≤_, _<_}
 use lib.ListN.{length, getD, take, drop}
 use lib.Seq.{getD-drop}
 use Rattle.demand.proofs.Places.{rows-drop}
-use Rattle.demand.proofs.Refused.{fair-row, sound-row}
+use Rattle.demand.proofs.Refusals.{fair-row, sound-row}
 use Rattle.demand.proofs.Slices.{width-most, from-is}
 use Rattle.demand.specs.Refusals.{FairRow}
 use Rattle.demand.specs.Rows.{Row, rowsOf, width, rowAt, noRow, Sound}

@@ -6,7 +6,7 @@ use native.Mathlib.Omega.{arith}
 use borrow.Author.Tests.{eq-eqb, ne-eqb}
 use Prim.Native.Nat.{ℕ, zero, suc, _-_, _*_, _/_, _≤_}
 use lib.ListN.{length, drop, replicate}
-use Rattle.demand.proofs.Refused.{refusal-in-range, refusal-whole}
+use Rattle.demand.proofs.Refusals.{refusal-in-range, refusal-whole}
 use Rattle.demand.proofs.Slices.{rows-count}
 use Rattle.demand.specs.Refusals.{tableRefusal, InRange}
 use Rattle.demand.specs.Rows.{tasksOf, handlersOf}

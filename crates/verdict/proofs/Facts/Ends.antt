@@ -13,13 +13,14 @@ use Rattle.demand.specs.Refusals.{InRange}
 use Rattle.demand.specs.Rows.{Row, Positive}
 use Rattle.demand.specs.Tests.{pick}
 use Rattle.demand.proofs.Demands.{passes-or-fails}
-use Rattle.demand.proofs.Sizes.{fair-positive}
-use Rattle.verdict.specs.Facts.{FailsBy, PassesTo, OverfullFails, PeriodEnds, ShortOnly, bound, endBy, searchEnd}
+use Rattle.demand.proofs.Inside.Sizes.{fair-positive}
+use Rattle.verdict.specs.Inside.Search.{endBy, searchEnd}
+use Rattle.verdict.specs.Facts.{FailsBy, PassesTo, OverfullFails, PeriodEnds, ShortOnly, bound}
 use Rattle.verdict.specs.Loads.{whole}
-use Rattle.verdict.specs.Multiples.{period}
+use Rattle.verdict.specs.Multiples.{common}
 use Rattle.verdict.specs.Promise.{AlwaysPasses}
 use Rattle.verdict.proofs.Facts.Common.{work-some, light-drains, fails-short, heavy-fails}
-use Rattle.verdict.proofs.Divisors.{period-positive, period-tasks, period-handlers}
+use Rattle.verdict.proofs.Divisors.{common-positive, common-tasks, common-handlers}
 use Rattle.verdict.proofs.Facts.Drain.{drain-ends}
 
 module _ (ts hs : List Row) (fair : InRange ts hs) where
@@ -29,39 +30,39 @@ module _ (ts hs : List Row) (fair : InRange ts hs) where
   handlers-positive : Positive hs
   handlers-positive = fair-positive hs (fair .handlers)
 
-  positive : 0 < period ts hs
-  positive = period-positive ts hs tasks-positive handlers-positive
+  positive : 0 < common ts hs
+  positive = common-positive ts hs tasks-positive handlers-positive
 
   -- If W is above H, some L up to H fails: H itself.
   pub overfull-fails : OverfullFails ts hs
   unfolding whole
   overfull-fails heavy = record {
-    interval = period ts hs;
+    interval = common ts hs;
     positive = positive;
     within = omega arith;
-    fails = heavy-fails ts hs (fair .deadlines) handlers-positive (period ts hs) positive (period-tasks ts hs) (period-handlers ts hs) heavy
-        (work-some (period ts hs) ts positive (fair .tasks) (period-tasks ts hs) (fair .some-task));
+    fails = heavy-fails ts hs (fair .deadlines) handlers-positive (common ts hs) positive (common-tasks ts hs) (common-handlers ts hs) heavy
+        (work-some (common ts hs) ts positive (fair .tasks) (common-tasks ts hs) (fair .some-task));
   }
 
   -- If W is at most H and no L up to H fails, none fails at all: H is a drain point.
   pub period-ends : PeriodEnds ts hs
   unfolding whole AlwaysPasses
   period-ends light passes l from =
-      drain-ends ts hs (period ts hs) (fair .deadlines) handlers-positive
-      (light-drains ts hs (fair .deadlines) handlers-positive (period ts hs) positive (period-tasks ts hs) (period-handlers ts hs) light)
+      drain-ends ts hs (common ts hs) (fair .deadlines) handlers-positive
+      (light-drains ts hs (fair .deadlines) handlers-positive (common ts hs) positive (common-tasks ts hs) (common-handlers ts hs) light)
       passes l
 
   -- Every failing L has L times H below L times W and the bound.
-  early : (l : ℕ) → Fails ts hs l → l * period ts hs < l * whole ts hs + bound ts hs
+  early : (l : ℕ) → Fails ts hs l → l * common ts hs < l * whole ts hs + bound ts hs
   unfolding whole bound
-  early = fails-short ts hs (fair .deadlines) handlers-positive (period ts hs) positive (period-tasks ts hs) (period-handlers ts hs)
+  early = fails-short ts hs (fair .deadlines) handlers-positive (common ts hs) positive (common-tasks ts hs) (common-handlers ts hs)
 
   -- If W is below H, every failing L has L times (H - W) below the bound.
   pub short-only : ShortOnly ts hs
-  short-only light l fails = omega (arith, early l fails, mul-sub l (period ts hs) (whole ts hs), mul-le-mul-left {m = whole ts hs} {n = period ts hs} l (omega arith))
+  short-only light l fails = omega (arith, early l fails, mul-sub l (common ts hs) (whole ts hs), mul-le-mul-left {m = whole ts hs} {n = common ts hs} l (omega arith))
 
   -- Where the bound is 0, no length fails: no handler, and every deadline its period.
-  pub nothing-fails : whole ts hs ≤ period ts hs → bound ts hs ≡ 0 → AlwaysPasses ts hs
+  pub nothing-fails : whole ts hs ≤ common ts hs → bound ts hs ≡ 0 → AlwaysPasses ts hs
   unfolding AlwaysPasses
   nothing-fails light none l from = go (passes-or-fails ts hs l)
     where
@@ -86,9 +87,9 @@ end-cases C H W B over free full short = go (ltb H W) (eqb B 0) (eqb W H) refl r
         short (omega arith)
 
 -- The end is not above H.
-pub end-le : (ts hs : List Row) → searchEnd ts hs ≤ period ts hs
+pub end-le : (ts hs : List Row) → searchEnd ts hs ≤ common ts hs
 unfolding searchEnd
-end-le ts hs = end-cases (λ n. n ≤ period ts hs) (period ts hs) (whole ts hs) (bound ts hs) (λ _. omega arith) (λ _ _. omega arith) (λ _. omega arith) (λ _. omega arith)
+end-le ts hs = end-cases (λ n. n ≤ common ts hs) (common ts hs) (whole ts hs) (bound ts hs) (λ _. omega arith) (λ _ _. omega arith) (λ _. omega arith) (λ _. omega arith)
 
 -- A length up to H that the last fact admits is not above the end.
 end-reaches : (H W B l : ℕ) → W < H → l ≤ H → l * (H - W) < B → l ≤ min H ((B - 1) / (H - W))
@@ -98,23 +99,23 @@ end-reaches H W B l light short admitted =
 
 module _ (ts hs : List Row) (fair : InRange ts hs) where
   -- W above H: the length that fails is not above H.
-  overfull-enough : period ts hs < whole ts hs → PassesTo ts hs (period ts hs) → AlwaysPasses ts hs
+  overfull-enough : common ts hs < whole ts hs → PassesTo ts hs (common ts hs) → AlwaysPasses ts hs
   overfull-enough heavy passes =
-      let f : FailsBy ts hs (period ts hs) = overfull-fails ts hs fair heavy in
+      let f : FailsBy ts hs (common ts hs) = overfull-fails ts hs fair heavy in
       absurd (omega (arith, passes (f .interval) (f .positive) (f .within), f .fails))
 
   -- W below H: the lengths from the end to H pass by the last fact.
-  short-enough : whole ts hs < period ts hs → PassesTo ts hs (min (period ts hs) ((bound ts hs - 1) / (period ts hs - whole ts hs))) → AlwaysPasses ts hs
+  short-enough : whole ts hs < common ts hs → PassesTo ts hs (min (common ts hs) ((bound ts hs - 1) / (common ts hs - whole ts hs))) → AlwaysPasses ts hs
   short-enough light passes = period-ends ts hs fair (omega arith) (λ l from within. go l from within (passes-or-fails ts hs l))
     where
-      go : (l : ℕ) → 1 ≤ l → l ≤ period ts hs → Passes ts hs l ⊎ Fails ts hs l → Passes ts hs l
+      go : (l : ℕ) → 1 ≤ l → l ≤ common ts hs → Passes ts hs l ⊎ Fails ts hs l → Passes ts hs l
       go l from within (inl here) = here
-      go l from within (inr fails) = passes l from (end-reaches (period ts hs) (whole ts hs) (bound ts hs) l light within (short-only ts hs fair light l fails))
+      go l from within (inr fails) = passes l from (end-reaches (common ts hs) (whole ts hs) (bound ts hs) l light within (short-only ts hs fair light l fails))
 
   -- No length above the end need be looked at.
   pub end-enough : PassesTo ts hs (searchEnd ts hs) → AlwaysPasses ts hs
   unfolding searchEnd
-  end-enough = end-cases (λ n. PassesTo ts hs n → AlwaysPasses ts hs) (period ts hs) (whole ts hs) (bound ts hs)
+  end-enough = end-cases (λ n. PassesTo ts hs n → AlwaysPasses ts hs) (common ts hs) (whole ts hs) (bound ts hs)
       overfull-enough
       (λ light none _. nothing-fails ts hs fair light none)
       (λ e. period-ends ts hs fair (omega arith))

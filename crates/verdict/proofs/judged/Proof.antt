@@ -1,17 +1,17 @@
 use mathlib.Core.Path.{refl}
 use native.Mathlib.Omega.{arith}
-use Rattle.demand.proofs.Sizes.{small-less}
-use Rattle.verdict.proofs.Readable.{readable-in-range, readable-table, period-small}
+use Rattle.demand.proofs.Inside.Sizes.{small-less}
+use Rattle.verdict.proofs.Readable.{readable-in-range, readable-table, common-small}
 use Rattle.verdict.proofs.Sayings.{load-read, end-read, whole-most, bound-fits, end-fits, says-fits, says-misses}
 use borrow.Author.Needs.{needs}
 use Rattle.verdict.proofs.judged.Statement.{statement}
 use Rattle.verdict.proofs.judged.Tie as tie
 
 work-requires : tie.Need-work-requires
-work-requires c κs = period-small _ _ (c .before .before .pre .0) _ (c .before .before .pre .1) .1
+work-requires c κs = common-small _ _ (c .before .before .pre .0) _ (c .before .before .pre .1) .1
 
 work-requires-2 : tie.Need-work-requires-2
-work-requires-2 c κs = period-small _ _ (c .before .before .before .pre .0) _ (c .before .before .before .pre .1) .2
+work-requires-2 c κs = common-small _ _ (c .before .before .before .pre .0) _ (c .before .before .before .pre .1) .2
 
 add-w : tie.Need-add-w
 add-w c =
@@ -26,7 +26,7 @@ of-work-requires c κs =
 costs-requires : tie.Need-costs-requires
 costs-requires c κs =
     let x = c .before .before .before .before .before in
-    small-less _ _ _ (omega arith) (period-small _ _ (x .pre .0) _ (x .pre .1) .2)
+    small-less _ _ _ (omega arith) (common-small _ _ (x .pre .0) _ (x .pre .1) .2)
 
 mul-bound : tie.Need-mul-bound
 mul-bound c =
@@ -36,7 +36,7 @@ mul-bound c =
 slack-requires : tie.Need-slack-requires
 slack-requires c κs =
     let x = c .before .before .before .before .before .before in
-    (period-small _ _ (x .pre .0) _ (x .pre .1) .1, readable-in-range _ _ (x .pre .0) .deadlines)
+    (common-small _ _ (x .pre .0) _ (x .pre .1) .1, readable-in-range _ _ (x .pre .0) .deadlines)
 
 add-bound : tie.Need-add-bound
 add-bound c =

@@ -1,4 +1,4 @@
-use Rattle.demand.proofs.Sizes.{handlers-small}
+use Rattle.demand.proofs.Inside.Sizes.{handlers-small}
 use borrow.Author.Needs.{needs}
 use Rattle.demand.proofs.readable.handled.Statement.{statement}
 use Rattle.demand.proofs.readable.handled.Tie as tie

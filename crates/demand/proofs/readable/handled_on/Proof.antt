@@ -5,9 +5,9 @@ use Rattle.demand.specs.Demands.{handled}
 use Rattle.demand.specs.Rows.{handlersOf}
 use Rattle.demand.proofs.Between.{plain-valid}
 use Rattle.demand.proofs.Demands.{handled-le}
-use Rattle.demand.proofs.Sizes.{fair-positive, small-less}
+use Rattle.demand.proofs.Inside.Sizes.{fair-positive, small-less}
 use Rattle.demand.proofs.Slices.{handlers-plain}
-use Rattle.demand.proofs.Walks.{next-above, next-within, walk-busy, walk-idle}
+use Rattle.demand.proofs.Inside.Walk.{next-above, next-within, walk-busy, walk-idle}
 use Rattle.demand.proofs.readable.handled_on.Statement.{statement}
 use Rattle.demand.proofs.readable.handled_on.Tie as tie
 

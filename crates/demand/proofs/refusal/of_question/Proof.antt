@@ -1,6 +1,6 @@
 use mathlib.Core.Path.{sym, _∙_}
 use native.Mathlib.Nat.{pos-of-ne-zero}
-use Rattle.demand.proofs.Refused.{asked-zero, asked-5, asked-table}
+use Rattle.demand.proofs.Refusals.{asked-zero, asked-5, asked-table}
 use borrow.Author.Needs.{needs}
 use Rattle.demand.proofs.refusal.of_question.Statement.{statement}
 use Rattle.demand.proofs.refusal.of_question.Tie as tie

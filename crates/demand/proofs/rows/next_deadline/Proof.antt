@@ -3,8 +3,9 @@ use lib.ListN.{length}
 use native.Mathlib.Omega.{arith}
 use Prim.Native.Nat.{ℕ, _+_, _-_, _*_, _≤_, min}
 use Rattle.demand.specs.Rows.{rowsOf, rowOf}
-use Rattle.demand.specs.Inside.Walk.{nextDeadline, Small}
-use Rattle.demand.proofs.Sizes.{after-fits}
+use Rattle.demand.specs.Inside.Sizes.{Small}
+use Rattle.demand.specs.Inside.Walk.{nextDeadline}
+use Rattle.demand.proofs.Inside.Sizes.{after-fits}
 use Rattle.demand.proofs.Slices.{width-least, width-most, from, from-zero, from-length, fair-head, next-turn, small-turn, next-over}
 use Rattle.demand.proofs.rows.next_deadline.Statement.{statement}
 use Rattle.demand.proofs.rows.next_deadline.Tie as tie

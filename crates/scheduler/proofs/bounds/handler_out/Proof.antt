@@ -1,6 +1,6 @@
 use native.Mathlib.Omega.{arith}
 use borrow.Author.Needs.{needs}
-use Rattle.demand.proofs.Refused.{fair-row}
+use Rattle.demand.proofs.Refusals.{fair-row}
 use Rattle.demand.specs.Rows.{rowOf}
 use Rattle.scheduler.proofs.Steps.OnePass.{handler-figures, handler-rest}
 use Rattle.scheduler.proofs.Steps.RowPlaces.{fits-product}

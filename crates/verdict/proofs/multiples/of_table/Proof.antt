@@ -1,8 +1,8 @@
 use mathlib.Core.Path.{sym, _∙_}
 use native.Mathlib.Nat.{pos-of-ne-zero}
 use native.Mathlib.Omega.{arith}
-use Rattle.demand.proofs.Refused.{refusal-in-range}
-use Rattle.verdict.proofs.Capped.{period-over, tasks-multiple, period-read}
+use Rattle.demand.proofs.Refusals.{refusal-in-range}
+use Rattle.verdict.proofs.Capped.{common-over, tasks-multiple, common-read}
 use Rattle.verdict.proofs.multiples.of_table.Statement.{statement}
 use Rattle.verdict.proofs.multiples.of_table.Tie as tie
 
@@ -10,7 +10,7 @@ lcm-from-requires : tie.Need-lcm-from-requires
 lcm-from-requires c κs = (refusal-in-range _ _ (c .before .before .pre) .tasks, omega arith, omega arith)
 
 returns : tie.Need-returns
-returns c = period-over _ _ (c .before .before .before .before .pre) (sym (c .if1 .taken) ∙ c .before .lcm-from .ensures)
+returns c = common-over _ _ (c .before .before .before .before .pre) (sym (c .if1 .taken) ∙ c .before .lcm-from .ensures)
 
 lcm-from-requires-2 : tie.Need-lcm-from-requires-2
 lcm-from-requires-2 c κs =
@@ -21,7 +21,7 @@ lcm-from-requires-2 c κs =
 returns-2 : tie.Need-returns-2
 returns-2 c =
     let in-range = c .before .before .before .before .before .pre in
-    period-read _ _ in-range _ (pos-of-ne-zero (c .before .if1 .left)) (c .before .before .lcm-from .ensures) _ (c .lcm-from2 .ensures)
+    common-read _ _ in-range _ (pos-of-ne-zero (c .before .if1 .left)) (c .before .before .lcm-from .ensures) _ (c .lcm-from2 .ensures)
 
 pub of-table-spec : {M : Type 1} → statement M
 of-table-spec = tie.close (tie.spec lcm-from-requires returns lcm-from-requires-2 returns-2)

@@ -1,6 +1,6 @@
 use native.Mathlib.Omega.{arith}
 use borrow.Author.Tests.{eq-eqb, ne-eqb, lt-ltb, le-ltb}
-use Rattle.verdict.specs.Facts.{endBy}
+use Rattle.verdict.specs.Inside.Search.{endBy}
 use borrow.Author.Needs.{needs}
 use Rattle.verdict.proofs.search.end_of.Statement.{statement}
 use Rattle.verdict.proofs.search.end_of.Tie as tie

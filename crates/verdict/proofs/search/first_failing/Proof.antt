@@ -4,10 +4,11 @@ use Prim.Native.Nat.{_+_, _-_, _≤_}
 use Rattle.demand.specs.Demands.{handled}
 use Rattle.demand.specs.Rows.{tasksOf, handlersOf}
 use Rattle.demand.proofs.Demands.{handled-zero, handled-le}
-use Rattle.demand.proofs.Refused.{asked-zero}
-use Rattle.demand.proofs.Sizes.{tasks-small, tasks-valid, due-most}
-use Rattle.demand.proofs.Walks.{next-above}
-use Rattle.verdict.specs.Facts.{PassesTo, FoundSays}
+use Rattle.demand.proofs.Refusals.{asked-zero}
+use Rattle.demand.proofs.Inside.Sizes.{tasks-small, tasks-valid, due-most}
+use Rattle.demand.proofs.Inside.Walk.{next-above}
+use Rattle.verdict.specs.Inside.Search.{FoundSays}
+use Rattle.verdict.specs.Facts.{PassesTo}
 use Rattle.verdict.proofs.Searching.{passes-start, passes-out, passes-on, fails-first}
 use Rattle.verdict.proofs.search.first_failing.Statement.{statement}
 use Rattle.verdict.proofs.search.first_failing.Tie as tie

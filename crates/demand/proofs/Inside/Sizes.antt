@@ -6,12 +6,13 @@ use native.Mathlib.Nat.{mul-le-mul, le-trans}
 use native.Mathlib.Omega.{arith}
 use Prim.Native.Nat.{ℕ, _+_, _*_, _^_, _≤_, _<_}
 use Rattle.demand.specs.Demands.{calledBy, within, dueBy, called, due}
+use Rattle.demand.specs.Inside.Sizes.{rowMost, rowDueMost, calledMost, dueMost, Small}
 use Rattle.demand.specs.Limits.{ticksMost}
 use Rattle.demand.specs.Refusals.{tableRefusal, askedRefusal, FairRow}
 use Rattle.demand.specs.Rows.{Row, tasksOf, handlersOf, Each, Positive, Valid}
-use Rattle.demand.specs.Inside.Walk.{deadlineAfter, Small}
+use Rattle.demand.specs.Inside.Walk.{deadlineAfter}
 use Rattle.demand.proofs.Divide.{ceil-le, within-most, within-mul}
-use Rattle.demand.proofs.Refused.{refusal-in-range, asked-in-range}
+use Rattle.demand.proofs.Refusals.{refusal-in-range, asked-in-range}
 use Rattle.demand.proofs.Sums.{each-map, total-most}
 
 pub fair-positive : (rs : List Row) → Each FairRow rs → Positive rs
@@ -21,12 +22,12 @@ pub small-less : (rs : List Row) (l m : ℕ) → l ≤ m → Small rs m → Smal
 small-less rs l m h s = record { rows = s .rows; count = s .count; ticks = omega (arith, s .ticks) }
 
 -- One row: at most a million of cost for each of a thousand million ticks, and for one more.
-pub due-by-most : (l : ℕ) (r : Row) → l ≤ ticksMost → FairRow r → dueBy l r ≤ 1000000001000000
+pub due-by-most : (l : ℕ) (r : Row) → l ≤ ticksMost → FairRow r → dueBy l r ≤ rowDueMost
 due-by-most l r h f =
     let few : within l (r .deadline) (r .period) ≤ 1000000001 = omega (arith, within-most l (r .deadline) (r .period)) in
     mul-le-mul (f .cost .most) few
 
-pub called-by-most : (l : ℕ) (r : Row) → l ≤ ticksMost → FairRow r → calledBy l r ≤ 1000000000000000
+pub called-by-most : (l : ℕ) (r : Row) → l ≤ ticksMost → FairRow r → calledBy l r ≤ rowMost
 called-by-most l r h f = mul-le-mul (f .cost .most) (le-trans (ceil-le (r .period) l (f .period .least)) h)
 
 -- The next deadline fits a word, as the row's own does.
@@ -37,13 +38,13 @@ after-fits at r h f own = go (within-mul at (r .deadline) (r .period))
     go (inl none) = rw none (omega arith)
     go (inr (early, few)) = omega (arith, f .period .most)
 
-pub due-most : (rs : List Row) (l : ℕ) → Small rs l → due rs l ≤ 64000000064000000
+pub due-most : (rs : List Row) (l : ℕ) → Small rs l → due rs l ≤ dueMost
 unfolding due
-due-most rs l s = omega (arith, total-most 1000000001000000 (dueBy l) rs (each-map (λ r f. due-by-most l r (s .ticks) f) rs (s .rows)), s .count)
+due-most rs l s = omega (arith, total-most rowDueMost (dueBy l) rs (each-map (λ r f. due-by-most l r (s .ticks) f) rs (s .rows)), s .count)
 
-pub called-most : (rs : List Row) (l : ℕ) → Small rs l → called rs l ≤ 64000000000000000
+pub called-most : (rs : List Row) (l : ℕ) → Small rs l → called rs l ≤ calledMost
 unfolding called
-called-most rs l s = omega (arith, total-most 1000000000000000 (calledBy l) rs (each-map (λ r f. called-by-most l r (s .ticks) f) rs (s .rows)), s .count)
+called-most rs l s = omega (arith, total-most rowMost (calledBy l) rs (each-map (λ r f. called-by-most l r (s .ticks) f) rs (s .rows)), s .count)
 
 -- The rows of a table without a refusal of its own.
 module _ (t h : List ℕ) (e : tableRefusal t h ≡ 0) where

@@ -6,8 +6,8 @@ use Prim.Native.Nat.{ℕ}
 use Rattle.demand.specs.Lighter.{Lighter}
 use Rattle.demand.specs.Refusals.{InRange}
 use Rattle.demand.specs.Rows.{Row, Positive, tasksOf, handlersOf}
-use Rattle.demand.proofs.Lighten.{passes-lighter}
-use Rattle.demand.proofs.Sizes.{fair-positive}
+use Rattle.demand.proofs.Lighter.{passes-lighter}
+use Rattle.demand.proofs.Inside.Sizes.{fair-positive}
 use Rattle.verdict.specs.Lightening.{YesUnderLess}
 use Rattle.verdict.specs.Promise.{Word, Figures, figures, verdictRefusal, AlwaysPasses, SaysFits, SaysBy, Says, VerdictSays}
 use Rattle.verdict.specs.Promise.Word.{fits, misses, refused}

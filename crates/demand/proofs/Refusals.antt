@@ -10,7 +10,7 @@ use Prim.Native.Nat.{ℕ, _*_, _%_, _≤_, _<_}
 use lib.Dec.{ltb, eqb}
 use lib.ListN.{length}
 use Rattle.demand.specs.Limits.{figureMost, tasksMost, handlersMost, ticksMost}
-use Rattle.demand.specs.Refusals.{uneven, miscounted, outside, rowOutside, deadlineOutside, tableTests, tableRefusal, askedRefusal, Fair, FairRow, InRange}
+use Rattle.demand.specs.Refusals.{uneven, outside, rowOutside, deadlineOutside, tableTests, tableRefusal, askedRefusal, Fair, FairRow, InRange}
 use Rattle.demand.specs.Rows.{Row, rowsOf, width, tasksOf, handlersOf, some, Each, Sound, Valid}
 use Rattle.demand.specs.Tests.{pick, firstRefusal, NoneHolds}
 use Rattle.demand.specs.declared.table.Kind.{Kind}

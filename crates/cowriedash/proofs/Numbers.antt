@@ -3,13 +3,13 @@ use mathlib.Core.List.{List}
 use mathlib.Core.Path.{_≡_, sym, ap, _∙_}
 use lib.IntN.{ℤ}
 use Prim.Native.Nat.{ℕ}
-use Rattle.demand.proofs.Answered.{demand-unique, margin-unique}
+use Rattle.demand.proofs.Answers.{demand-unique, margin-unique}
 use Rattle.demand.specs.Answers.{marginFigures}
 use Rattle.demand.specs.Refusals.{askedRefusal}
 use Rattle.demand.specs.Rows.{tasksOf, handlersOf}
 use Rattle.demand.specs.declared.MarginAnswer.{MarginAnswer}
 use Rattle.verdict.specs.Promise.{answerNumbers}
-use Rattle.verdict.proofs.Once.{verdict-unique}
+use Rattle.verdict.proofs.Promise.{verdict-unique}
 use Rattle.cowriedash.specs.Numbers.{demandNumbers, VerdictTold, DemandTold, MarginTold}
 
 pub verdict-told-unique : (t h a b : List ℕ) → VerdictTold t h a → VerdictTold t h b → a ≡ b

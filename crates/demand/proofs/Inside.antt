@@ -1,0 +1,3 @@
+-- Laws of what stands in specs/Inside.
+pub mod Walk
+pub mod Sizes

@@ -1,0 +1,3 @@
+-- What no promise cites: how the code goes about its work.
+-- how far a search goes, and what it finds
+pub mod Search

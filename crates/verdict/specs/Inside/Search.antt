@@ -1,0 +1,37 @@
+-- How far a search goes, and what it finds. No promise cites it: the facts that end it are stated in specs/Facts.
+--   endBy H W B            == the smallest end that the facts allow where H, W and the bound are these
+--   searchEnd ts hs        == that end of a table: no length above it need be looked at
+--   FoundSays ts hs end r  the search's answer: the shortest length that fails, with what is told of it, or that none up to end does
+use mathlib.Core.List.{List}
+use mathlib.Core.Path.{_≡_}
+use Prim.Native.Nat.{ℕ, _-_, _/_, _≤_, min}
+use lib.Dec.{ltb, eqb}
+use Rattle.demand.specs.Rows.{Row}
+use Rattle.demand.specs.Tests.{pick}
+use Rattle.verdict.specs.Facts.{PassesTo, bound}
+use Rattle.verdict.specs.Loads.{whole}
+use Rattle.verdict.specs.Multiples.{common}
+use Rattle.verdict.specs.Promise.{LeastFailing, missAt}
+use Rattle.verdict.specs.declared.Miss.{Miss}
+use Rattle.verdict.specs.declared.search.Found.{Found}
+use Rattle.verdict.specs.declared.search.Found.the-variants.{At, Nothing}
+
+-- With W at most H: 0 where the bound is 0, H where W is H, else the greatest L that the last fact still admits, if below H.
+unfoldable pub endBy : ℕ → ℕ → ℕ → ℕ
+endBy H W B =
+    pick (ltb H W) H
+    (pick (eqb B 0) 0
+    (pick (eqb W H) H
+    (min H ((B - 1) / (H - W)))))
+
+unfoldable pub searchEnd : List Row → List Row → ℕ
+searchEnd ts hs = endBy (common ts hs) (whole ts hs) (bound ts hs)
+
+pub record FoundAt (ts hs : List Row) (end : ℕ) (m : Miss) : Type 0 where
+  pub shortest : LeastFailing ts hs (m .interval)
+  pub within : m .interval ≤ end
+  pub exact : m ≡ missAt ts hs (m .interval)
+
+unfoldable pub FoundSays : List Row → List Row → ℕ → Found → Type 0
+FoundSays ts hs end (At miss) = FoundAt ts hs end miss
+FoundSays ts hs end Nothing = PassesTo ts hs end
