@@ -19,7 +19,8 @@ pub record LegalArrival (r : Run) (k w : ℕ) : Type 0 where
   pub in-cost : w ≤ rowIn r k .cost
 
 -- Of a run in bounds that is not over, before the last clock: a list is accepted exactly if it has a number for each row and each is legal;
--- and an accepted arrival makes the row's next legal tick a period later than the clock, where it stays without one, so that arrivals are at least a period apart.
+-- and an accepted arrival makes the row's next legal tick a period later than the clock, where it stays without one, so that
+-- arrivals are at least a period apart.
 pub record LegalArrivals (r : Run) (ws : List ℕ) : Type 0 where
   pub count : Accepted r ws → length ws ≡ rowCount r
   pub legal : Accepted r ws → (k : ℕ) → k < rowCount r → LegalArrival r k (getD ws k 0)

@@ -22,7 +22,8 @@ NoScheduler =
 abbrev pub OursIsOne : Type 0
 OursIsOne =
     (t h : List ℕ) (r : verdict.Answer) → VerdictSays t h r → figures r .word ≡ misses
-    → (n : ℕ) → n < figures r .interval → Timely (tasksOf t) (handlersOf h) n (sync n (tasksOf t) (handlersOf h) .tasks) (sync n (tasksOf t) (handlersOf h) .handlers)
+    → (n : ℕ) → n < figures r .interval
+    → Timely (tasksOf t) (handlersOf h) n (sync n (tasksOf t) (handlersOf h) .tasks) (sync n (tasksOf t) (handlersOf h) .handlers)
 
 -- some schedule meets every deadline up to clock n
 pub record Met (t h : List ℕ) (n : ℕ) : Type 0 where

@@ -1,6 +1,7 @@
 -- Our own run among the schedules (00, demand 3).
 --   Ours t h n             the synchronous run after n ticks is seen as our machine's state, to which it comes on time
---   OurRun                 the synchronous run of `fresh` and `step` is our scheduler's, and such a schedule, for as long as it is not over; of any table, after a yes too
+--   OurRun                 the synchronous run of `fresh` and `step` is our scheduler's, and such a schedule, for as long
+--                          as it is not over; of any table, after a yes too
 use mathlib.Core.Bool.{false}
 use mathlib.Core.List.{List}
 use mathlib.Core.Path.{_≡_}

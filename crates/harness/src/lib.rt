@@ -7,15 +7,26 @@ use scheduler::Late;
 use scheduler::Ran;
 use scheduler::Run;
 use scheduler::Start;
+use scheduler::sizes::HANDLER_NUMBERS;
+use scheduler::sizes::PLACES;
+use scheduler::sizes::TASK_NUMBERS;
+
+// The tasks that a run has room for, and the figures of a run and an answer.
+const TASKS_MOST: usize = Run::TASKS_MOST;
+
+const FIGURES: usize = 9;
+
+// Rows that no run has are told apart up to this one.
+const ROW_MOST: usize = 1_000_000;
 
 fn late_number(late: Late) -> u64 {
     match late {
         Late::Nobody => 0,
         Late::Task { row } => {
-            if row < 1000000 {
+            if row < ROW_MOST {
                 row as u64 + 1
             } else {
-                1000001
+                ROW_MOST as u64 + 1
             }
         }
     }
@@ -59,7 +70,7 @@ fn start_code(start: Start) -> u64 {
 }
 
 // The figures of a run, and of the answer beside it.
-fn run_figures(run: Run, code: u64, ran: Ran, late: Late) -> [u64; 9] {
+fn run_figures(run: Run, code: u64, ran: Ran, late: Late) -> [u64; FIGURES] {
     let own = run.late;
     [
         run.task_count as u64,
@@ -74,7 +85,7 @@ fn run_figures(run: Run, code: u64, ran: Ran, late: Late) -> [u64; 9] {
     ]
 }
 
-fn step_figures(run: Run, answer: Answer) -> [u64; 9] {
+fn step_figures(run: Run, answer: Answer) -> [u64; FIGURES] {
     match answer {
         Answer::Ticked { ran, late } => run_figures(run, 0, ran, late),
         Answer::Refused { number } => run_figures(run, number as u64, Ran::Idle, Late::Nobody),
@@ -86,12 +97,12 @@ fn step_figures(run: Run, answer: Answer) -> [u64; 9] {
 pub extern "C" fn harness_fresh(
     tasks: &[u32],
     handlers: &[u32],
-    t: &mut [u32; 192],
-    h: &mut [u32; 32],
-    next: &mut [u64; 80],
-    due: &mut [u64; 64],
-    owed: &mut [u64; 80],
-    figures: &mut [u64; 9],
+    t: &mut [u32; TASK_NUMBERS],
+    h: &mut [u32; HANDLER_NUMBERS],
+    next: &mut [u64; PLACES],
+    due: &mut [u64; TASKS_MOST],
+    owed: &mut [u64; PLACES],
+    figures: &mut [u64; FIGURES],
 ) {
     let fresh = Run::fresh(tasks, handlers);
     let run = fresh.run;
@@ -112,12 +123,12 @@ pub extern "C" fn harness_fresh(
 // One step of the run in the lent arrays, whatever stands there.
 #[no_mangle]
 pub extern "C" fn harness_step(
-    t: &[u32; 192],
-    h: &[u32; 32],
-    next: &mut [u64; 80],
-    due: &mut [u64; 64],
-    owed: &mut [u64; 80],
-    figures: &mut [u64; 9],
+    t: &[u32; TASK_NUMBERS],
+    h: &[u32; HANDLER_NUMBERS],
+    next: &mut [u64; PLACES],
+    due: &mut [u64; TASKS_MOST],
+    owed: &mut [u64; PLACES],
+    figures: &mut [u64; FIGURES],
     arrivals: &[u32],
 ) {
     let tasks = *t;

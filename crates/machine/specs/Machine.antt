@@ -1,4 +1,5 @@
--- Our own machine: its state, its arrivals, one tick of it and its synchronous run (01, "One tick of the scheduler"; case 13). Handlers first, then the task with the smallest key, in 01 the deadline.
+-- Our own machine: its state, its arrivals, one tick of it and its synchronous run (01, "One tick of the scheduler"; case 13).
+-- Handlers first, then the task with the smallest key, in 01 the deadline.
 --   State, Arrivals        == clock and rows at work; what one tick brings, a number for each row, 0 for no arrival
 --   freshState ts hs       == the state of a fresh run: clock 0, all rows idle
 --   LegalTick a s          each arrival of a is legal in s

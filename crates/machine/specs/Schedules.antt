@@ -33,4 +33,5 @@ pub data Gave : List Live → List Live → List Live → List Live → Type 0 w
 pub data Timely (ts hs : List Row) : ℕ → List Live → List Live → Type 0 where
   start : Timely ts hs 0 (idle ts) (idle hs)
   onward : {t : ℕ} {xs ys xs' ys' : List Live}
-      → Timely ts hs t xs ys → Gave (arriveAll t (beats t ts) xs) (arriveAll t (beats t hs) ys) xs' ys' → OnTime (suc t) xs' → Timely ts hs (suc t) xs' ys'
+      → Timely ts hs t xs ys → Gave (arriveAll t (beats t ts) xs) (arriveAll t (beats t hs) ys) xs' ys' → OnTime (suc t) xs'
+      → Timely ts hs (suc t) xs' ys'

@@ -9,7 +9,7 @@ use Rattle.demand.specs.Rows.{tasksOf, handlersOf}
 use Rattle.scheduler.specs.Books.{sum, bringing, ticking, busy, broughtBy, busyBy, owedIn, Balance}
 use Rattle.machine.specs.Live.{Live}
 use Rattle.scheduler.specs.Reached.{offeredBy, Sound}
-use Rattle.scheduler.specs.Runs.{rowCount, Shaped}
+use Rattle.scheduler.specs.Runs.{rowCount, Shaped, rowPlaces}
 use Rattle.scheduler.specs.Start.{zeros, freshOf, freshRun}
 use Rattle.scheduler.specs.Steps.{stepBy}
 use Rattle.scheduler.specs.Tick.{GoesTo, paid, keyWith, goesTo, tickedBy}
@@ -39,8 +39,8 @@ module _ (r : Run) (ws : List ℕ) (shaped : Shaped r) (p : Passed r ws) where
   unfolding owedIn
   arrived-sum =
       let n : ℕ = rowCount r in
-      let long : n ≤ 80 = few r ws shaped p in
-      let old : length (take n (r .owed)) ≡ n = length-take-le n (r .owed) (omega (arith, shaped .owed-80)) in
+      let long : n ≤ rowPlaces = few r ws shaped p in
+      let old : length (take n (r .owed)) ≡ n = length-take-le n (r .owed) (omega (arith, shaped .owed-long)) in
       let new : length (take n (owedNow r ws shaped p)) ≡ n = length-take-le n (owedNow r ws shaped p) (omega (arith, owed-length r ws shaped p)) in
       sum-add (take n (r .owed)) ws (take n (owedNow r ws shaped p)) (old ∙ sym (p .count)) (new ∙ sym (p .count))
       (λ j l.
@@ -80,7 +80,7 @@ fresh-owes : (t h : List ℕ) → owedIn (freshRun t h) ≡ 0
 unfolding owedIn freshRun
 fresh-owes t h =
     let n : ℕ = length (tasksOf t) + length (handlersOf h) in
-    sum-zero (take n (zeros 80)) (λ j l. getD-take n (zeros 80) j 0 (omega (arith, length-take n (zeros 80))) ∙ zeros-at 80 j)
+    sum-zero (take n (zeros rowPlaces)) (λ j l. getD-take n (zeros rowPlaces) j 0 (omega (arith, length-take n (zeros rowPlaces))) ∙ zeros-at rowPlaces j)
 
 pub balance : Balance
 balance key t h e offers =

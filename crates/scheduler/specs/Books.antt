@@ -1,4 +1,5 @@
--- The books balance (01, "One tick of the scheduler"): for a run from fresh, work brought by all accepted steps equals ticks that were not idle plus work still owed.
+-- The books balance (01, "One tick of the scheduler"): for a run from fresh, work brought by all accepted steps equals ticks that
+-- were not idle plus work still owed.
 --   sum xs                   == the sum of the numbers xs
 --   broughtBy key offers r   == the work that the accepted ones of these offers bring run r
 --   busyBy key offers r      == the ticks of those steps that were not idle

@@ -1,4 +1,5 @@
--- A run that is out of bounds, refusal 6 (01, "One tick of the scheduler"): each of its clauses, in its order. A clause is a test of a run; above it stands the test of one place that it asks of all.
+-- A run that is out of bounds, refusal 6 (01, "One tick of the scheduler"): each of its clauses, in its order.
+-- A clause is a test of a run; above it stands the test of one place that it asks of all.
 --   tableRefused r     == its table meets 1, 2, 3 or 13
 --   placesUsed r       == a place past its last row isn't 0
 --   clockPast r        == the clock is above its limit

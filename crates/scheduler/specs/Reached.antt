@@ -1,4 +1,5 @@
--- Every run that steps reach from a fresh one is in bounds (01, "One tick of the scheduler"): refusal 6 is only for runs made elsewhere. Said for any key, of which the deadline is one.
+-- Every run that steps reach from a fresh one is in bounds (01, "One tick of the scheduler"): refusal 6 is only for
+-- runs made elsewhere. Said for any key, of which the deadline is one.
 --   offeredBy key offers r   == the run after a list of offers, each accepted or refused; offered, with the deadline as key
 --   FreshInBounds            a fresh run is in bounds
 --   StepInBounds             a step of a run in bounds hands back a run in bounds, accepted or refused
@@ -33,4 +34,6 @@ abbrev pub StepInBounds : Type 0
 StepInBounds = (key : Live → ℕ) (r : Run) (ws : List ℕ) → Sound r → Sound (stepBy key r ws .run)
 
 abbrev pub AlwaysInBounds : Type 0
-AlwaysInBounds = (key : Live → ℕ) (t h : List ℕ) → freshOf t h .answer ≡ Ready → (offers : List (List ℕ)) → Sound (offeredBy key offers (freshOf t h .run))
+AlwaysInBounds =
+    (key : Live → ℕ) (t h : List ℕ) → freshOf t h .answer ≡ Ready
+    → (offers : List (List ℕ)) → Sound (offeredBy key offers (freshOf t h .run))

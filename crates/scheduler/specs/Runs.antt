@@ -1,15 +1,16 @@
--- A run by place (01, "One tick of the scheduler"). Handlers stand behind tasks: the place of task i is i, that of handler i is task_count + i.
+-- A run by place (01, "One tick of the scheduler"). Handlers stand behind tasks: the place of task i is i, that of handler i is
+-- task_count + i.
 --   runOf ..            == the run of these fields
 --   rowOn t h n k       == the row at place k, of n tasks with the numbers t and handlers with the numbers h
 --   rowIn r k           == the row at place k of run r
 --   rowCount r          == how many rows it has
 --   taskRows r, handlerRows r == the rows of its table
---   Fitting n m         n tasks and m handlers are no more than a run has places for
+--   taskNumbers, handlerNumbers, rowPlaces == the lengths of its arrays
 --   Shaped r            its arrays have their lengths, as those of every run that a program holds
 use mathlib.Core.Bool.{Bool}
 use mathlib.Core.List.{List}
 use mathlib.Core.Path.{_≡_}
-use Prim.Native.Nat.{ℕ, _+_, _-_, _*_, _≤_}
+use Prim.Native.Nat.{ℕ, _+_, _-_, _*_}
 use lib.Dec.{ltb}
 use lib.ListN.{length, take}
 use Rattle.demand.specs.Limits.{tasksMost, handlersMost}
@@ -48,13 +49,19 @@ taskRows r = tasksOf (take (3 * r .«task_count») (r .tasks))
 unfoldable pub handlerRows : Run → List Row
 handlerRows r = handlersOf (take (2 * r .«handler_count») (r .handlers))
 
-pub record Fitting (n m : ℕ) : Type 0 where
-  pub tasks : n ≤ tasksMost
-  pub handlers : m ≤ handlersMost
+-- The sizes of its arrays: the numbers of the most tasks and of the most handlers, and a place for each row.
+abbrev pub taskNumbers : ℕ
+taskNumbers = 3 * tasksMost
+
+abbrev pub handlerNumbers : ℕ
+handlerNumbers = 2 * handlersMost
+
+abbrev pub rowPlaces : ℕ
+rowPlaces = tasksMost + handlersMost
 
 pub record Shaped (r : Run) : Type 0 where
-  pub tasks-192 : length (r .tasks) ≡ 192
-  pub handlers-32 : length (r .handlers) ≡ 32
-  pub next-80 : length (r .next) ≡ 80
-  pub due-64 : length (r .due) ≡ 64
-  pub owed-80 : length (r .owed) ≡ 80
+  pub tasks-long : length (r .tasks) ≡ taskNumbers
+  pub handlers-long : length (r .handlers) ≡ handlerNumbers
+  pub next-long : length (r .next) ≡ rowPlaces
+  pub due-long : length (r .due) ≡ tasksMost
+  pub owed-long : length (r .owed) ≡ rowPlaces

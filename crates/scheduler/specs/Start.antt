@@ -10,10 +10,11 @@ use mathlib.Core.List.{List, _++_}
 use Prim.Native.Nat.{ℕ, _-_}
 use lib.Dec.{eqb}
 use lib.ListN.{length, replicate}
+use Rattle.demand.specs.Limits.{tasksMost}
 use Rattle.demand.specs.Refusals.{tableRefusal}
 use Rattle.demand.specs.Rows.{tasksOf, handlersOf}
 use Rattle.demand.specs.Tests.{pick}
-use Rattle.scheduler.specs.Runs.{runOf}
+use Rattle.scheduler.specs.Runs.{runOf, taskNumbers, handlerNumbers, rowPlaces}
 use Rattle.scheduler.specs.declared.Fresh.{Fresh}
 use Rattle.scheduler.specs.declared.Late.the-variants.{Nobody}
 use Rattle.scheduler.specs.declared.Run.{Run}
@@ -27,10 +28,12 @@ unfoldable pub zeros : ℕ → List ℕ
 zeros n = replicate n 0
 
 unfoldable pub freshRun : List ℕ → List ℕ → Run
-freshRun t h = runOf (padded 192 t) (padded 32 h) (length (tasksOf t)) (length (handlersOf h)) 0 (zeros 80) (zeros 64) (zeros 80) false Nobody
+freshRun t h =
+    runOf (padded taskNumbers t) (padded handlerNumbers h) (length (tasksOf t)) (length (handlersOf h))
+    0 (zeros rowPlaces) (zeros tasksMost) (zeros rowPlaces) false Nobody
 
 unfoldable pub noRun : Run
-noRun = runOf (replicate 192 0) (replicate 32 0) 0 0 0 (zeros 80) (zeros 64) (zeros 80) false Nobody
+noRun = runOf (zeros taskNumbers) (zeros handlerNumbers) 0 0 0 (zeros rowPlaces) (zeros tasksMost) (zeros rowPlaces) false Nobody
 
 unfoldable pub freshOf : List ℕ → List ℕ → Fresh
 freshOf t h =

@@ -5,7 +5,7 @@
 --   GoesTo key owed n m ran   the tick goes to ran, of n tasks and m handlers that are owed `owed`: 01's rule, word for word
 --   goesTo key owed n m       == the one to whom it goes
 --   better, earliest          == the task with the smallest key of those owed work, the lowest row of several, found row by row
---   paid owed n ran           == work owed after the tick of ran; Payable: ran is a row and is owed work
+--   paid owed n ran           == work owed after the tick of ran
 --   isLate, lateRow           == a task is owed work at its deadline; the first such row
 --   isTask late               == a row is named
 --   closed, ended             == the run one tick on and the answer, where it is known whether it is over; where it is known who is late
@@ -17,7 +17,6 @@ use mathlib.Core.Path.{_≡_}
 use Prim.Native.Nat.{ℕ, zero, suc, _+_, _-_, _≤_, _<_}
 use lib.Dec.{ltb, eqb}
 use lib.ListN.{getD, set}
-use Rattle.demand.specs.Limits.{tasksMost, handlersMost}
 use Rattle.demand.specs.Rows.{Row}
 use Rattle.demand.specs.Tests.{pick}
 use Rattle.machine.specs.Live.{Live}
@@ -32,7 +31,8 @@ use Rattle.scheduler.specs.declared.Run.{Run}
 use Rattle.scheduler.specs.declared.Stepped.{Stepped}
 use Rattle.scheduler.specs.declared.tick.Best.{Best}
 
--- ---- arrivals add their work, and the row's next legal arrival becomes clock + period; a task's deadline becomes clock + its own (02, M-101)
+-- ---- arrivals add their work, and the row's next legal arrival becomes clock + period;
+-- a task's deadline becomes clock + its own (02, M-101)
 
 abbrev pub ahead : ℕ → ℕ → ℕ → ℕ → ℕ
 ahead clock ticks w old = pick (eqb w 0) old (clock + ticks)
@@ -104,12 +104,6 @@ paid owed n (ran.Handler i) = less owed (n + i)
 paid owed n (ran.Task i) = less owed i
 paid owed n ran.Idle = owed
 
--- The one that runs is a row of the table and is owed work.
-unfoldable pub Payable : List ℕ → ℕ → Ran → Type 0
-Payable owed n (ran.Handler i) = (i < handlersMost) × (0 < getD owed (n + i) 0)
-Payable owed n (ran.Task i) = (i < tasksMost) × (0 < getD owed i 0)
-Payable owed n ran.Idle = Unit
-
 -- ---- if a task is owed work and its deadline equals the clock, the run is over and the first such row is the late one
 
 abbrev pub isLate : ℕ → (ℕ → ℕ) → List ℕ → ℕ → Bool
@@ -135,7 +129,9 @@ ended r next due owed ran late = closed r next due owed ran (isTask late) late
 
 -- What is left of the tick once it is known to whom it goes.
 abbrev pub served : Run → List ℕ → List ℕ → List ℕ → Ran → Stepped
-served r next due owed ran = ended r next due (paid owed (r .«task_count») ran) ran (lateRow (r .clock + 1) (at due) (paid owed (r .«task_count») ran) (r .«task_count»))
+served r next due owed ran =
+    ended r next due (paid owed (r .«task_count») ran) ran
+    (lateRow (r .clock + 1) (at due) (paid owed (r .«task_count») ran) (r .«task_count»))
 
 abbrev pub keyWith : (Live → ℕ) → Run → List ℕ → List ℕ → List ℕ → ℕ → ℕ
 keyWith key r next due owed k = key (record { row = rowIn r k; next = getD next k 0; due = getD due k 0; owed = getD owed k 0 })

@@ -1,22 +1,25 @@
 // Arrivals: refusals 10 and 11, and what the arrivals of an accepted step change.
-ghost use mathlib.Core.Bool.{false};
 ghost use mathlib.Core.Path.{_≡_};
-ghost use Prim.Native.Nat.{ℕ, _+_, _<_, _≤_};
-ghost use lib.ListN.{length, getD};
-ghost use Rattle.demand.specs.Limits.{tasksMost, ticksMost};
-ghost use Rattle.scheduler.specs.Bounds.{outsideAt, deadlineOutsideAt};
+ghost use Prim.Native.Nat.{_+_, _≤_};
+ghost use lib.ListN.{length};
+ghost use Rattle.demand.specs.Limits.{figureMost, tasksMost, ticksMost};
 ghost use Rattle.scheduler.specs.Inside.OnePass.{heavyTask, heavyHandler};
-ghost use Rattle.scheduler.specs.Runs.{rowOn, Fitting};
+ghost use Rattle.scheduler.specs.Inside.Counted.{Fitting, TableFair, OwedInWord};
+ghost use Rattle.scheduler.specs.Runs.{rowPlaces, rowOn};
 ghost use Rattle.scheduler.specs.Scans.{any};
 ghost use Rattle.scheduler.specs.Steps.{early, heavy};
 ghost use Rattle.scheduler.specs.Tick.{ahead, nextArrived, dueArrived, owedArrived};
 use crate::rows;
+use crate::sizes::HANDLER_NUMBERS;
+use crate::sizes::PLACES;
+use crate::sizes::TASK_NUMBERS;
 use demand::table;
 use demand::table::Kind;
+use demand::table::TASKS_MOST;
 
 // Does an arrival come before its row's next legal tick?
-pub fn some_early(next: &[u64; 80], arrivals: &[u32], clock: u64) -> bool
-    requires { ⌜ length (now arrivals) ≤ 80 ⌝ }
+pub fn some_early(next: &[u64; PLACES], arrivals: &[u32], clock: u64) -> bool
+    requires { ⌜ length (now arrivals) ≤ rowPlaces ⌝ }
     ensures { λ r. ⌜ r ≡ any (early clock (now (next .entry)) (now (arrivals .entry))) (length (now (arrivals .entry))) ⌝ }
 {
     let mut bad = false;
@@ -30,7 +33,7 @@ pub fn some_early(next: &[u64; 80], arrivals: &[u32], clock: u64) -> bool
 }
 
 // Does an arrival of one of n tasks bring more than its cost?
-fn tasks_heavy(tasks: &[u32; 192], n: usize, arrivals: &[u32]) -> bool
+fn tasks_heavy(tasks: &[u32; TASK_NUMBERS], n: usize, arrivals: &[u32]) -> bool
     requires { ⌜ (n ≤ tasksMost) × (n ≤ length (now arrivals)) ⌝ }
     ensures { λ r. ⌜ r ≡ any (heavyTask (now (tasks .entry)) (now (arrivals .entry))) n ⌝ }
 {
@@ -46,7 +49,7 @@ fn tasks_heavy(tasks: &[u32; 192], n: usize, arrivals: &[u32]) -> bool
 }
 
 // Does one of m handlers behind n tasks?
-fn handlers_heavy(handlers: &[u32; 32], n: usize, m: usize, arrivals: &[u32]) -> bool
+fn handlers_heavy(handlers: &[u32; HANDLER_NUMBERS], n: usize, m: usize, arrivals: &[u32]) -> bool
     requires { ⌜ Fitting n m × (length (now arrivals) ≡ n + m) ⌝ }
     ensures { λ r. ⌜ r ≡ any (heavyHandler (now (handlers .entry)) (now (arrivals .entry)) n) m ⌝ }
 {
@@ -64,14 +67,15 @@ fn handlers_heavy(handlers: &[u32; 32], n: usize, m: usize, arrivals: &[u32]) ->
 
 // Does an arrival bring more than its row's cost?
 pub fn some_heavy(
-    tasks: &[u32; 192],
-    handlers: &[u32; 32],
+    tasks: &[u32; TASK_NUMBERS],
+    handlers: &[u32; HANDLER_NUMBERS],
     n: usize,
     m: usize,
     arrivals: &[u32],
 ) -> bool
     requires { ⌜ Fitting n m × (length (now arrivals) ≡ n + m) ⌝ }
-    ensures { λ r. ⌜ r ≡ any (heavy (rowOn (now (tasks .entry)) (now (handlers .entry)) n) (now (arrivals .entry))) (length (now (arrivals .entry))) ⌝ }
+    ensures { λ r. ⌜ r ≡ any (heavy (rowOn (now (tasks .entry)) (now (handlers .entry)) n) (now (arrivals .entry)))
+        (length (now (arrivals .entry))) ⌝ }
 {
     let of_tasks = tasks_heavy(tasks, n, arrivals);
     let of_handlers = handlers_heavy(handlers, n, m, arrivals);
@@ -79,8 +83,8 @@ pub fn some_heavy(
 }
 
 // Arrivals add their work.
-pub fn add_work(owed: &mut [u64; 80], arrivals: &[u32])
-    requires { ⌜ (length (now arrivals) ≤ 80) × ((k : ℕ) → k < length (now arrivals) → getD (now owed) k 0 ≤ 1000000000000000) ⌝ }
+pub fn add_work(owed: &mut [u64; PLACES], arrivals: &[u32])
+    requires { ⌜ (length (now arrivals) ≤ rowPlaces) × OwedInWord (now owed) (length (now arrivals)) ⌝ }
     ensures { λ r. ⌜ now (owed .exit) ≡ owedArrived (now (arrivals .entry)) (length (now (arrivals .entry))) (now (owed .entry)) ⌝ }
 {
     let mut k = 0;
@@ -94,7 +98,7 @@ pub fn add_work(owed: &mut [u64; 80], arrivals: &[u32])
 
 // An arrival of w puts a tick so many ticks ahead of the clock; without one the old tick stays.
 fn ahead(clock: u64, ticks: u64, w: u32, old: u64) -> u64
-    requires { ⌜ (clock ≤ ticksMost) × (ticks ≤ 1000000) ⌝ }
+    requires { ⌜ (clock ≤ ticksMost) × (ticks ≤ figureMost) ⌝ }
     ensures { λ r. ⌜ r ≡ ahead clock ticks w old ⌝ }
 {
     if w == 0 { old } else { clock + ticks }
@@ -102,16 +106,17 @@ fn ahead(clock: u64, ticks: u64, w: u32, old: u64) -> u64
 
 // An arrival makes its row's next legal arrival clock + period.
 pub fn move_next<'a>(
-    next: &mut [u64; 80],
-    tasks: &'a [u32; 192],
-    handlers: &'a [u32; 32],
+    next: &mut [u64; PLACES],
+    tasks: &'a [u32; TASK_NUMBERS],
+    handlers: &'a [u32; HANDLER_NUMBERS],
     n: usize,
     m: usize,
     clock: u64,
     arrivals: &[u32],
 )
-    requires { ⌜ Fitting n m × (clock ≤ ticksMost) × (any (outsideAt (rowOn (now tasks) (now handlers) n)) (n + m) ≡ false) × (length (now arrivals) ≡ n + m) ⌝ }
-    ensures { λ r. ⌜ now (next .exit) ≡ nextArrived clock (rowOn (now (tasks .entry)) (now (handlers .entry)) n) (now (arrivals .entry)) (length (now (arrivals .entry))) (now (next .entry)) ⌝ }
+    requires { ⌜ TableFair (now tasks) (now handlers) n m × (clock ≤ ticksMost) × (length (now arrivals) ≡ n + m) ⌝ }
+    ensures { λ r. ⌜ now (next .exit) ≡ nextArrived clock (rowOn (now (tasks .entry)) (now (handlers .entry)) n)
+        (now (arrivals .entry)) (length (now (arrivals .entry))) (now (next .entry)) ⌝ }
 {
     let mut k = 0;
     while k < arrivals.len() {
@@ -125,16 +130,17 @@ pub fn move_next<'a>(
 
 // An arrival makes its task's deadline clock + the task's own.
 pub fn move_due<'a>(
-    due: &mut [u64; 64],
-    tasks: &'a [u32; 192],
-    handlers: &'a [u32; 32],
+    due: &mut [u64; TASKS_MOST],
+    tasks: &'a [u32; TASK_NUMBERS],
+    handlers: &'a [u32; HANDLER_NUMBERS],
     n: usize,
     m: usize,
     clock: u64,
     arrivals: &[u32],
 )
-    requires { ⌜ Fitting n m × (clock ≤ ticksMost) × (any (outsideAt (rowOn (now tasks) (now handlers) n)) (n + m) ≡ false) × (any (deadlineOutsideAt (rowOn (now tasks) (now handlers) n)) n ≡ false) × (length (now arrivals) ≡ n + m) ⌝ }
-    ensures { λ r. ⌜ now (due .exit) ≡ dueArrived clock (rowOn (now (tasks .entry)) (now (handlers .entry)) n) (now (arrivals .entry)) n (now (due .entry)) ⌝ }
+    requires { ⌜ TableFair (now tasks) (now handlers) n m × (clock ≤ ticksMost) × (length (now arrivals) ≡ n + m) ⌝ }
+    ensures { λ r. ⌜ now (due .exit) ≡ dueArrived clock (rowOn (now (tasks .entry)) (now (handlers .entry)) n)
+        (now (arrivals .entry)) n (now (due .entry)) ⌝ }
 {
     let mut k = 0;
     while k < n {

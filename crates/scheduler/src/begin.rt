@@ -7,6 +7,12 @@ ghost use Rattle.demand.specs.Refusals.{tableRefusal};
 ghost use Rattle.scheduler.specs.Start.{freshRun, noRun};
 use crate::Late;
 use crate::Run;
+use crate::sizes::HANDLER_NUMBERS;
+use crate::sizes::PLACES;
+use crate::sizes::TASK_NUMBERS;
+use demand::table;
+use demand::table::Kind;
+use demand::table::TASKS_MOST;
 
 // The numbers of s stand at the start of out.
 fn copy_in(out: &mut [u32], s: &[u32])
@@ -25,19 +31,19 @@ pub fn fresh_run(tasks: &[u32], handlers: &[u32]) -> Run
     requires { ⌜ tableRefusal (now tasks) (now handlers) ≡ 0 ⌝ }
     ensures { λ r. ⌜ r ≡ freshRun (now (tasks .entry)) (now (handlers .entry)) ⌝ }
 {
-    let mut t = [0u32; 192];
-    let mut h = [0u32; 32];
+    let mut t = [0u32; TASK_NUMBERS];
+    let mut h = [0u32; HANDLER_NUMBERS];
     copy_in(&mut t, tasks);
     copy_in(&mut h, handlers);
     Run {
         tasks: t,
         handlers: h,
-        task_count: tasks.len() / 3,
-        handler_count: handlers.len() / 2,
+        task_count: table::count(Kind::Task, tasks),
+        handler_count: table::count(Kind::Handler, handlers),
         clock: 0,
-        next: [0u64; 80],
-        due: [0u64; 64],
-        owed: [0u64; 80],
+        next: [0u64; PLACES],
+        due: [0u64; TASKS_MOST],
+        owed: [0u64; PLACES],
         over: false,
         late: Late::Nobody,
     }
@@ -48,14 +54,14 @@ pub fn no_run() -> Run
     ensures { λ r. ⌜ r ≡ noRun ⌝ }
 {
     Run {
-        tasks: [0u32; 192],
-        handlers: [0u32; 32],
+        tasks: [0u32; TASK_NUMBERS],
+        handlers: [0u32; HANDLER_NUMBERS],
         task_count: 0,
         handler_count: 0,
         clock: 0,
-        next: [0u64; 80],
-        due: [0u64; 64],
-        owed: [0u64; 80],
+        next: [0u64; PLACES],
+        due: [0u64; TASKS_MOST],
+        owed: [0u64; PLACES],
         over: false,
         late: Late::Nobody,
     }

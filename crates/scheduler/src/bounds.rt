@@ -1,22 +1,26 @@
 // Refusal 6: is a run out of bounds? Its counts and its clock first, then one pass over its tasks and one over its handlers.
-ghost use mathlib.Core.Bool.{not, _&&_, _||_};
 ghost use mathlib.Core.Path.{_≡_};
 ghost use Prim.Native.Nat.{_≤_};
 ghost use Rattle.demand.specs.Limits.{tasksMost, ticksMost};
 ghost use Rattle.demand.specs.Rows.{rowOf};
 ghost use Rattle.scheduler.specs.Bounds.{miscounts, names, outOfBounds};
-ghost use Rattle.scheduler.specs.Inside.OnePass.{earliestDue, taskOut, taskOutAt, handlerOut, handlerOutAt};
-ghost use Rattle.scheduler.specs.Runs.{runOf, Fitting};
+ghost use Rattle.scheduler.specs.Inside.Counted.{Fitting};
+ghost use Rattle.scheduler.specs.Inside.OnePass.{earliestDue, taskOut, taskOutAt, handlerOut, handlerOutAt, lateOut};
+ghost use Rattle.scheduler.specs.Runs.{runOf};
 ghost use Rattle.scheduler.specs.Scans.{at, any};
-ghost use Rattle.scheduler.specs.Tick.{isTask, lateRow};
+ghost use Rattle.scheduler.specs.Tick.{lateRow};
 use crate::Late;
 use crate::Run;
 use crate::places;
 use crate::rows;
+use crate::sizes::HANDLER_NUMBERS;
+use crate::sizes::PLACES;
+use crate::sizes::TASK_NUMBERS;
 use crate::tick;
 use demand::table;
 use demand::table::Kind;
 use demand::table::Row;
+use demand::table::TASKS_MOST;
 
 fn miscounts(n: usize, m: usize) -> bool
     ensures { λ r. ⌜ r ≡ miscounts n m ⌝ }
@@ -65,16 +69,17 @@ fn handler_out(row: Row, next: u64, owed: u64, clock: u64) -> bool
 
 // Does a clause speak against one of n tasks?
 fn tasks_out<'a>(
-    tasks: &'a [u32; 192],
-    next: &'a [u64; 80],
-    due: &'a [u64; 64],
-    owed: &'a [u64; 80],
+    tasks: &'a [u32; TASK_NUMBERS],
+    next: &'a [u64; PLACES],
+    due: &'a [u64; TASKS_MOST],
+    owed: &'a [u64; PLACES],
     n: usize,
     clock: u64,
     first: u64,
 ) -> bool
     requires { ⌜ (n ≤ tasksMost) × (clock ≤ ticksMost) ⌝ }
-    ensures { λ r. ⌜ r ≡ any (taskOutAt clock first (now (tasks .entry)) (now (next .entry)) (now (due .entry)) (now (owed .entry))) n ⌝ }
+    ensures { λ r. ⌜ r ≡ any (taskOutAt clock first (now (tasks .entry)) (now (next .entry))
+        (now (due .entry)) (now (owed .entry))) n ⌝ }
 {
     let mut bad = false;
     let mut k = 0;
@@ -91,9 +96,9 @@ fn tasks_out<'a>(
 
 // Does a clause speak against one of m handlers behind n tasks?
 fn handlers_out<'a>(
-    handlers: &'a [u32; 32],
-    next: &'a [u64; 80],
-    owed: &'a [u64; 80],
+    handlers: &'a [u32; HANDLER_NUMBERS],
+    next: &'a [u64; PLACES],
+    owed: &'a [u64; PLACES],
     n: usize,
     m: usize,
     clock: u64,
@@ -128,15 +133,15 @@ fn names(late: Late, first: Late) -> bool
 
 // Over, is its late row not the first late task; not over, does it name a late row?
 fn late_out<'a>(
-    due: &'a [u64; 64],
-    owed: &'a [u64; 80],
+    due: &'a [u64; TASKS_MOST],
+    owed: &'a [u64; PLACES],
     n: usize,
     clock: u64,
     over: bool,
     late: Late,
 ) -> bool
-    requires { ⌜ n ≤ 64 ⌝ }
-    ensures { λ r. ⌜ r ≡ ((over && not (names late (lateRow clock (at (now (due .entry))) (now (owed .entry)) n))) || (not over && isTask late)) ⌝ }
+    requires { ⌜ n ≤ tasksMost ⌝ }
+    ensures { λ r. ⌜ r ≡ lateOut over late (lateRow clock (at (now (due .entry))) (now (owed .entry)) n) ⌝ }
 {
     if over {
         let first = tick::late_row(due, owed, n, clock);
@@ -148,18 +153,19 @@ fn late_out<'a>(
 
 // Is the run of these fields out of bounds?
 pub fn out_of_bounds<'a>(
-    tasks: &'a [u32; 192],
-    handlers: &'a [u32; 32],
-    next: &'a [u64; 80],
-    due: &'a [u64; 64],
-    owed: &'a [u64; 80],
+    tasks: &'a [u32; TASK_NUMBERS],
+    handlers: &'a [u32; HANDLER_NUMBERS],
+    next: &'a [u64; PLACES],
+    due: &'a [u64; TASKS_MOST],
+    owed: &'a [u64; PLACES],
     n: usize,
     m: usize,
     clock: u64,
     over: bool,
     late: Late,
 ) -> bool
-    ensures { λ r. ⌜ r ≡ outOfBounds (runOf (now (tasks .entry)) (now (handlers .entry)) n m clock (now (next .entry)) (now (due .entry)) (now (owed .entry)) over late) ⌝ }
+    ensures { λ r. ⌜ r ≡ outOfBounds (runOf (now (tasks .entry)) (now (handlers .entry)) n m clock
+        (now (next .entry)) (now (due .entry)) (now (owed .entry)) over late) ⌝ }
 {
     if miscounts(n, m) | (Run::TICKS_MOST < clock) {
         return true;

@@ -5,22 +5,29 @@ mod bounds;
 mod places;
 mod refusal;
 mod rows;
+pub mod sizes;
 mod tick;
 
 ghost use mathlib.Core.Path.{_≡_};
 ghost use Rattle.scheduler.specs.Start.{freshOf};
 ghost use Rattle.scheduler.specs.Steps.{stepOf};
+use crate::sizes::HANDLER_NUMBERS;
+use crate::sizes::PLACES;
+use crate::sizes::TASK_NUMBERS;
+use demand::table;
+use demand::table::TASKS_MOST;
 
-// A run: its table, the clock, for each row the next legal arrival and the work owed (handlers behind tasks), for each task the tick by which its last job must be done, whether it is over, and who was late.
+// A run: its table, the clock, for each row the next legal arrival and the work owed (handlers behind tasks), for each task the
+// tick by which its last job must be done, whether it is over, and who was late.
 pub struct Run {
-    pub tasks: [u32; 192],
-    pub handlers: [u32; 32],
+    pub tasks: [u32; TASK_NUMBERS],
+    pub handlers: [u32; HANDLER_NUMBERS],
     pub task_count: usize,
     pub handler_count: usize,
     pub clock: u64,
-    pub next: [u64; 80],
-    pub due: [u64; 64],
-    pub owed: [u64; 80],
+    pub next: [u64; PLACES],
+    pub due: [u64; TASKS_MOST],
+    pub owed: [u64; PLACES],
     pub over: bool,
     pub late: Late,
 }
@@ -63,11 +70,11 @@ pub struct Fresh {
 }
 
 impl Run {
-    pub const TASKS_MOST: usize = 64;
+    pub const TASKS_MOST: usize = table::TASKS_MOST;
 
-    pub const HANDLERS_MOST: usize = 16;
+    pub const HANDLERS_MOST: usize = table::HANDLERS_MOST;
 
-    pub const TICKS_MOST: u64 = 1_000_000_000;
+    pub const TICKS_MOST: u64 = table::TICKS_MOST;
 
     // A fresh run of a table: clock 0, all arrivals, deadlines and work 0, not over.
     pub fn fresh(tasks: &[u32], handlers: &[u32]) -> Fresh

@@ -6,14 +6,18 @@ use crate::Late;
 use crate::Run;
 use crate::arrivals;
 use crate::bounds;
+use crate::sizes::HANDLER_NUMBERS;
+use crate::sizes::PLACES;
+use crate::sizes::TASK_NUMBERS;
+use demand::table::TASKS_MOST;
 
 // The refusal of a step of the run of these fields.
 pub fn of_step<'a>(
-    tasks: &'a [u32; 192],
-    handlers: &'a [u32; 32],
-    next: &'a [u64; 80],
-    due: &'a [u64; 64],
-    owed: &'a [u64; 80],
+    tasks: &'a [u32; TASK_NUMBERS],
+    handlers: &'a [u32; HANDLER_NUMBERS],
+    next: &'a [u64; PLACES],
+    due: &'a [u64; TASKS_MOST],
+    owed: &'a [u64; PLACES],
     n: usize,
     m: usize,
     clock: u64,
@@ -21,7 +25,8 @@ pub fn of_step<'a>(
     late: Late,
     arrivals: &[u32],
 ) -> u32
-    ensures { λ r. ⌜ r ≡ stepRefusal (runOf (now (tasks .entry)) (now (handlers .entry)) n m clock (now (next .entry)) (now (due .entry)) (now (owed .entry)) over late) (now (arrivals .entry)) ⌝ }
+    ensures { λ r. ⌜ r ≡ stepRefusal (runOf (now (tasks .entry)) (now (handlers .entry)) n m clock
+        (now (next .entry)) (now (due .entry)) (now (owed .entry)) over late) (now (arrivals .entry)) ⌝ }
 {
     if bounds::out_of_bounds(tasks, handlers, next, due, owed, n, m, clock, over, late) {
         return 6;

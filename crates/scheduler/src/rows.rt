@@ -2,25 +2,37 @@
 ghost use mathlib.Core.Path.{_≡_};
 ghost use Prim.Native.Nat.{_+_, _*_, _<_, _≤_};
 ghost use lib.ListN.{length};
+ghost use Rattle.demand.specs.Limits.{tasksMost};
 ghost use Rattle.demand.specs.Rows.{rowsOf, width, rowAt, rowOf};
-ghost use Rattle.scheduler.specs.Runs.{rowOn, Fitting};
+ghost use Rattle.scheduler.specs.Inside.Counted.{Fitting};
+ghost use Rattle.scheduler.specs.Runs.{rowOn};
+use crate::sizes::HANDLER_NUMBERS;
+use crate::sizes::TASK_NUMBERS;
 use demand::table;
 use demand::table::Kind;
 use demand::table::Row;
 
+// How many numbers so many rows have.
+pub fn numbers(kind: Kind, count: usize) -> usize
+    requires { ⌜ count ≤ tasksMost ⌝ }
+    ensures { λ r. ⌜ r ≡ width kind * count ⌝ }
+{
+    table::width(kind) * count
+}
+
 // The row at place i of a flat list.
 pub fn row_of(kind: Kind, s: &[u32], i: usize) -> Row
-    requires { ⌜ (i < 64) × (width kind * i + width kind ≤ length (now s)) ⌝ }
+    requires { ⌜ (i < tasksMost) × (width kind * i + width kind ≤ length (now s)) ⌝ }
     ensures { λ r. ⌜ rowOf r ≡ rowAt (rowsOf kind (now (s .entry))) i ⌝ }
 {
-    let at = table::width(kind) * i;
+    let at = numbers(kind, i);
     table::head(kind, &s[at..])
 }
 
 // The row at place k, of n tasks and m handlers behind them.
 pub fn row_at<'a>(
-    tasks: &'a [u32; 192],
-    handlers: &'a [u32; 32],
+    tasks: &'a [u32; TASK_NUMBERS],
+    handlers: &'a [u32; HANDLER_NUMBERS],
     n: usize,
     m: usize,
     k: usize,

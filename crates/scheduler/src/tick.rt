@@ -1,17 +1,20 @@
 // The tick: who runs, what that leaves owed, who is late.
 ghost use mathlib.Core.Path.{_≡_};
 ghost use Prim.Native.Nat.{_+_, _<_, _≤_};
-ghost use Rattle.demand.specs.Limits.{ticksMost};
+ghost use Rattle.demand.specs.Limits.{tasksMost, handlersMost, ticksMost};
 ghost use Rattle.machine.specs.Live.{dueOf};
+ghost use Rattle.scheduler.specs.Inside.Counted.{Payable};
 ghost use Rattle.scheduler.specs.Scans.{at};
 ghost use Rattle.scheduler.specs.Steps.{stepRefusal};
-ghost use Rattle.scheduler.specs.Tick.{better, earliest, goesTo, paid, Payable, lateRow, isTask, closed, tickedBy};
+ghost use Rattle.scheduler.specs.Tick.{better, earliest, goesTo, paid, lateRow, isTask, closed, tickedBy};
 use crate::Answer;
 use crate::Late;
 use crate::Ran;
 use crate::Run;
 use crate::Stepped;
 use crate::arrivals;
+use crate::sizes::PLACES;
+use demand::table::TASKS_MOST;
 
 // The task found so far, and its key.
 pub struct Best {
@@ -36,8 +39,8 @@ fn better(best: Best, k: usize, owed: u64, key: u64) -> Best
 }
 
 // Of the first n tasks, the one with the smallest key among those owed work, lowest row on a tie.
-fn earliest<'a>(keys: &'a [u64; 64], owed: &'a [u64; 80], n: usize) -> Best
-    requires { ⌜ n ≤ 64 ⌝ }
+fn earliest<'a>(keys: &'a [u64; TASKS_MOST], owed: &'a [u64; PLACES], n: usize) -> Best
+    requires { ⌜ n ≤ tasksMost ⌝ }
     ensures { λ r. ⌜ r ≡ earliest (at (now (keys .entry))) (now (owed .entry)) n ⌝ }
 {
     let mut best = Best {
@@ -56,8 +59,8 @@ fn earliest<'a>(keys: &'a [u64; 64], owed: &'a [u64; 80], n: usize) -> Best
 }
 
 // To the first handler row that is owed work, else to a task, else to nobody.
-fn goes_to<'a>(keys: &'a [u64; 64], owed: &'a [u64; 80], n: usize, m: usize) -> Ran
-    requires { ⌜ (n ≤ 64) × (m ≤ 16) ⌝ }
+fn goes_to<'a>(keys: &'a [u64; TASKS_MOST], owed: &'a [u64; PLACES], n: usize, m: usize) -> Ran
+    requires { ⌜ (n ≤ tasksMost) × (m ≤ handlersMost) ⌝ }
     ensures { λ r. ⌜ r ≡ goesTo (at (now (keys .entry))) (now (owed .entry)) n m ⌝ }
 {
     let mut i = 0;
@@ -77,8 +80,8 @@ fn goes_to<'a>(keys: &'a [u64; 64], owed: &'a [u64; 80], n: usize, m: usize) -> 
 }
 
 // The tick takes one unit of the work of the one to whom it goes.
-fn pay(owed: &mut [u64; 80], n: usize, ran: Ran)
-    requires { ⌜ (n ≤ 64) × Payable (now owed) n ran ⌝ }
+fn pay(owed: &mut [u64; PLACES], n: usize, ran: Ran)
+    requires { ⌜ (n ≤ tasksMost) × Payable (now owed) n ran ⌝ }
     ensures { λ r. ⌜ now (owed .exit) ≡ paid (now (owed .entry)) n ran ⌝ }
 {
     match ran {
@@ -96,8 +99,13 @@ fn pay(owed: &mut [u64; 80], n: usize, ran: Ran)
 }
 
 // The first of n tasks that is owed work at its deadline.
-pub fn late_row<'a>(due: &'a [u64; 64], owed: &'a [u64; 80], n: usize, clock: u64) -> Late
-    requires { ⌜ n ≤ 64 ⌝ }
+pub fn late_row<'a>(
+    due: &'a [u64; TASKS_MOST],
+    owed: &'a [u64; PLACES],
+    n: usize,
+    clock: u64,
+) -> Late
+    requires { ⌜ n ≤ tasksMost ⌝ }
     ensures { λ r. ⌜ r ≡ lateRow clock (at (now (due .entry))) (now (owed .entry)) n ⌝ }
 {
     let mut k = 0;
@@ -123,9 +131,9 @@ pub fn is_task(late: Late) -> bool
 // The run one tick on, and the answer.
 fn closed(
     run: Run,
-    next: [u64; 80],
-    due: [u64; 64],
-    owed: [u64; 80],
+    next: [u64; PLACES],
+    due: [u64; TASKS_MOST],
+    owed: [u64; PLACES],
     ran: Ran,
     over: bool,
     late: Late,

@@ -8,14 +8,14 @@ use native.Mathlib.Omega.{arith}
 use Prim.Native.Nat.{ℕ, _+_, _-_, _≤_, _<_}
 use lib.ListN.{length, getD}
 use Rattle.demand.proofs.Divide.{le-or-lt}
-use Rattle.demand.specs.Limits.{ticksMost}
+use Rattle.demand.specs.Limits.{tasksMost, ticksMost}
 use Rattle.demand.specs.Rows.{Row}
 use Rattle.guarantees.specs.LegalArrivals.{Accepted, LegalArrival}
 use Rattle.machine.specs.Live.{arriveAll, LegalAll}
 use Rattle.machine.specs.Machine.{LegalTick}
 use Rattle.machine.specs.Places.{liveOf, Fits}
 use Rattle.scheduler.specs.Reached.{Sound}
-use Rattle.scheduler.specs.Runs.{rowIn, rowCount, taskRows, handlerRows}
+use Rattle.scheduler.specs.Runs.{rowIn, rowCount, taskRows, handlerRows, rowPlaces}
 use Rattle.scheduler.specs.Tick.{nextArrived}
 use Rattle.guarantees.specs.View.{part, seen, viewOf, offerOf}
 use Rattle.scheduler.specs.declared.Run.{Run}
@@ -31,10 +31,10 @@ use Rattle.guarantees.proofs.View.Rows.{Rows, rows-fit, sound-fits, tas
 -- A deadline for each row: those of tasks, and the next arrivals of handlers.
 module _ (r : Run) (s : Sound r) where
   pub tasks-due : length (part 0 (r .«task_count») (r .due)) ≡ r .«task_count»
-  tasks-due = part-length 0 (r .«task_count») (r .due) (omega (arith, sound-fits r s .tasks, s .shaped .due-64))
+  tasks-due = part-length 0 (r .«task_count») (r .due) (omega (arith, sound-fits r s .tasks, s .shaped .due-long))
 
   pub handlers-due : length (part (r .«task_count») (r .«handler_count») (r .next)) ≡ r .«handler_count»
-  handlers-due = part-length (r .«task_count») (r .«handler_count») (r .next) (omega (arith, handler-rows r s .within, s .shaped .next-80))
+  handlers-due = part-length (r .«task_count») (r .«handler_count») (r .next) (omega (arith, handler-rows r s .within, s .shaped .next-long))
 
 -- ---- what is legal
 
@@ -58,7 +58,7 @@ module _ (r : Run) (ws : List ℕ) (s : Sound r) (count : length ws ≡ rowCount
   legal-part a n rs ds w many inside legal j l = go (eq-zero-or-pos (getD ws (a + j) 0))
     where
       fits : Fits rs (part a n (r .next)) ds (part a n (r .owed))
-      fits = rows-fit w (r .next) ds (r .owed) (s .shaped .next-80) many (s .shaped .owed-80)
+      fits = rows-fit w (r .next) ds (r .owed) (s .shaped .next-long) many (s .shaped .owed-long)
 
       at-place : 0 < getD ws (a + j) 0 → (getD (r .next) (a + j) 0 ≤ r .clock) × (getD ws (a + j) 0 ≤ rowIn r (a + j) .cost)
       at-place some =
@@ -97,9 +97,9 @@ tick-accepted r ws s going soon count legal = legal-accepted r ws s going soon c
 -- ---- what they make of the state
 
 module _ (r : Run) (ws : List ℕ) (s : Sound r) (p : Passed r ws) where
-  pub next-length : length (nextNow r ws (s .shaped) p) ≡ 80
+  pub next-length : length (nextNow r ws (s .shaped) p) ≡ rowPlaces
   unfolding nextArrived
-  next-length = length-filled _ (rowCount r) (r .next) ∙ s .shaped .next-80
+  next-length = length-filled _ (rowCount r) (r .next) ∙ s .shaped .next-long
 
   -- Of the rows rs, which are those from place a on, where an arrival makes the deadlines `new` of those that were `old`.
   part-arrives : (a n : ℕ) (rs : List Row) (old new : List ℕ) → Rows r a n rs → a + n ≤ rowCount r → a + n ≤ length old → a + n ≤ length new
@@ -112,7 +112,7 @@ module _ (r : Run) (ws : List ℕ) (s : Sound r) (p : Passed r ws) where
       let owed = owedNow r ws (s .shaped) p in
       arrive-flat (r .clock) (part a n ws) rs (part a n (r .next)) (part a n old) (part a n (r .owed)) (part a n next) (part a n new) (part a n owed)
       (part-length a n ws (omega (arith, p .count)) ∙ sym (w .count))
-      (rows-fit w (r .next) (part a n old) (r .owed) (s .shaped .next-80) (part-length a n old long-old) (s .shaped .owed-80))
+      (rows-fit w (r .next) (part a n old) (r .owed) (s .shaped .next-long) (part-length a n old long-old) (s .shaped .owed-long))
       (rows-fit w next (part a n new) owed next-length (part-length a n new long-new) (owed-length r ws (s .shaped) p))
       (λ j l.
       let below : j < n = omega (arith, w .count) in
@@ -139,9 +139,9 @@ module _ (r : Run) (ws : List ℕ) (s : Sound r) (p : Passed r ws) where
       ≡ seen r (r .clock) (nextNow r ws (s .shaped) p) (dueNow r ws (s .shaped) p) (owedNow r ws (s .shaped) p) .tasks
   tasks-arrive =
       let n : ℕ = r .«task_count» in
-      let few : n ≤ 64 = sound-fits r s .tasks in
+      let few : n ≤ tasksMost = sound-fits r s .tasks in
       part-arrives 0 n (taskRows r) (r .due) (dueNow r ws (s .shaped) p) (task-rows r s) (omega arith)
-      (omega (arith, s .shaped .due-64))
+      (omega (arith, s .shaped .due-long))
       (omega (arith, due-length r ws (s .shaped) p))
       (λ k l. due-stays r ws (s .shaped) p k (omega arith))
       (λ j l. due-moves r ws (s .shaped) p (0 + j) (omega arith))
@@ -154,7 +154,7 @@ module _ (r : Run) (ws : List ℕ) (s : Sound r) (p : Passed r ws) where
       let next = nextNow r ws (s .shaped) p in
       let w = handler-rows r s in
       part-arrives n m (handlerRows r) (r .next) next w (omega arith)
-      (omega (arith, w .within, s .shaped .next-80))
+      (omega (arith, w .within, s .shaped .next-long))
       (omega (arith, w .within, next-length))
       (λ k l. passed-waits r ws (s .shaped) p k l)
       (λ i l some. passed-moves r ws (s .shaped) p (n + i) (omega arith) some ∙ ap (λ (x : ℕ). r .clock + x) (sym (handler-deadline r s i l)))

@@ -51,7 +51,7 @@ module _ (r : Run) (s : Sound r) (t : ℕ) where
   n = r .«task_count»
 
   fits : Fits (taskRows r) (part 0 n (r .next)) (part 0 n (r .due)) (part 0 n (r .owed))
-  fits = rows-fit (task-rows r s) (r .next) (part 0 n (r .due)) (r .owed) (s .shaped .next-80) (tasks-due r s) (s .shaped .owed-80)
+  fits = rows-fit (task-rows r s) (r .next) (part 0 n (r .due)) (r .owed) (s .shaped .next-long) (tasks-due r s) (s .shaped .owed-long)
 
   pub named-not-on-time : isTask (lateRow t (at (r .due)) (r .owed) n) ≡ true → ¬ OnTime t (viewOf r .tasks)
   named-not-on-time e on =

@@ -8,6 +8,7 @@ use borrow.Author.Tests.{lt-ltb, le-ltb}
 use Prim.Native.Nat.{ℕ, _+_, _-_, _*_, _≤_, _<_}
 use lib.ListN.{length, take}
 use lib.Seq.{length-take-le, getD-take}
+use Rattle.demand.specs.Limits.{tasksMost}
 use Rattle.demand.proofs.Places.{rows-take, each-at}
 use Rattle.demand.proofs.Slices.{rows-count, handlers-plain}
 use Rattle.demand.specs.Rows.{Row, tasksOf, handlersOf, rowsOf, width, rowAt, noRow}
@@ -15,7 +16,8 @@ use Rattle.demand.specs.declared.table.Kind.{Kind}
 use Rattle.demand.specs.declared.table.Kind.the-variants.{Task, Handler}
 use Rattle.machine.specs.Places.{Fits}
 use Rattle.scheduler.specs.Reached.{Sound}
-use Rattle.scheduler.specs.Runs.{rowIn, taskRows, handlerRows, Fitting}
+use Rattle.scheduler.specs.Runs.{rowIn, taskRows, handlerRows, rowPlaces}
+use Rattle.scheduler.specs.Inside.Counted.{Fitting}
 use Rattle.guarantees.specs.View.{part}
 use Rattle.scheduler.specs.declared.Run.{Run}
 use Rattle.scheduler.proofs.Steps.Clauses.{clauses, clauses-fit}
@@ -23,7 +25,7 @@ use Rattle.guarantees.proofs.View.Parts.{part-length}
 
 pub record Rows (r : Run) (a n : ℕ) (rs : List Row) : Type 0 where
   pub count : length rs ≡ n
-  pub within : a + n ≤ 80
+  pub within : a + n ≤ rowPlaces
   pub row-at : (i : ℕ) → i < n → rowAt rs i ≡ rowIn r (a + i)
 
 -- They are as many as they should be, and the row at each place stays.
@@ -43,9 +45,9 @@ module _ (r : Run) (s : Sound r) where
   unfolding taskRows
   task-rows =
       let n : ℕ = r .«task_count» in
-      let few : n ≤ 64 = sound-fits r s .tasks in
+      let few : n ≤ tasksMost = sound-fits r s .tasks in
       record {
-        count = taken-count Task (r .tasks) n (omega (arith, s .shaped .tasks-192));
+        count = taken-count Task (r .tasks) n (omega (arith, s .shaped .tasks-long));
         within = omega arith;
         row-at = λ i l. rw (zero-add i, lt-ltb i n l) (taken-row Task (r .tasks) n i l);
       }
@@ -57,7 +59,7 @@ module _ (r : Run) (s : Sound r) where
       let m : ℕ = r .«handler_count» in
       let fit = sound-fits r s in
       record {
-        count = taken-count Handler (r .handlers) m (omega (arith, s .shaped .handlers-32, fit .handlers));
+        count = taken-count Handler (r .handlers) m (omega (arith, s .shaped .handlers-long, fit .handlers));
         within = omega (arith, fit .tasks, fit .handlers);
         row-at = λ i l.
             let behind : n + i - n ≡ i = omega arith in
@@ -69,11 +71,11 @@ module _ (r : Run) (s : Sound r) where
   handler-deadline i l =
       let n : ℕ = r .«task_count» in
       let behind : n + i - n ≡ i = omega arith in
-      let here : i < length (handlersOf (r .handlers)) = omega (arith, rows-count Handler (r .handlers), s .shaped .handlers-32, sound-fits r s .handlers) in
+      let here : i < length (handlersOf (r .handlers)) = omega (arith, rows-count Handler (r .handlers), s .shaped .handlers-long, sound-fits r s .handlers) in
       rw (le-ltb (n + i) n (omega arith), behind) (each-at (λ (x : Row). x .deadline ≡ x .period) (handlersOf (r .handlers)) (handlers-plain (r .handlers)) i here)
 
--- Parts of lists of 80 numbers fit them, beside as many deadlines.
-pub rows-fit : {r : Run} {a n : ℕ} {rs : List Row} → Rows r a n rs → (ns ds os : List ℕ) → length ns ≡ 80 → length ds ≡ n → length os ≡ 80
+-- Parts of lists with a number for each place fit them, beside as many deadlines.
+pub rows-fit : {r : Run} {a n : ℕ} {rs : List Row} → Rows r a n rs → (ns ds os : List ℕ) → length ns ≡ rowPlaces → length ds ≡ n → length os ≡ rowPlaces
     → Fits rs (part a n ns) ds (part a n os)
 rows-fit {r} {a} {n} {rs} w ns ds os ln ld lo = record {
   nexts = part-length a n ns (omega (arith, w .within)) ∙ sym (w .count);

@@ -6,12 +6,13 @@ use native.Mathlib.Numerals.{add-one}
 use native.Mathlib.Omega.{arith}
 use Prim.Native.Nat.{ℕ, zero, suc, _+_, _-_, _≤_, _<_}
 use lib.ListN.{length, getD, set}
+use Rattle.demand.specs.Limits.{tasksMost}
 use Rattle.demand.specs.Rows.{rowAt}
 use Rattle.machine.specs.Live.{Live, owedAll}
 use Rattle.machine.specs.Machine.{State, serve, pick, givenBy}
 use Rattle.machine.specs.Places.{liveOf, liveAt, Fits}
 use Rattle.scheduler.specs.Reached.{Sound}
-use Rattle.scheduler.specs.Runs.{rowIn, taskRows, handlerRows}
+use Rattle.scheduler.specs.Runs.{rowIn, taskRows, handlerRows, rowPlaces}
 use Rattle.scheduler.specs.Tick.{ToHandler, ToTask, ToNobody, GoesTo, less, paid, keyWith}
 use Rattle.guarantees.specs.View.{part, seen}
 use Rattle.scheduler.specs.declared.Ran.{Ran}
@@ -23,7 +24,7 @@ use Rattle.machine.proofs.FlatFacts.{flat-owed}
 use Rattle.guarantees.proofs.View.Parts.{part-length, part-at, part-set, part-after, front-at, front-set, front-before}
 use Rattle.guarantees.proofs.View.Rows.{rows-fit, sound-fits, task-rows, handler-rows}
 
-module _ (key : Live → ℕ) (r : Run) (s : Sound r) (next due owed : List ℕ) (next-80 : length next ≡ 80) (due-64 : length due ≡ 64) (owed-80 : length owed ≡ 80) where
+module _ (key : Live → ℕ) (r : Run) (s : Sound r) (next due owed : List ℕ) (next-long : length next ≡ rowPlaces) (due-long : length due ≡ tasksMost) (owed-long : length owed ≡ rowPlaces) where
   abbrev n : ℕ
   n = r .«task_count»
 
@@ -34,10 +35,10 @@ module _ (key : Live → ℕ) (r : Run) (s : Sound r) (next due owed : List ℕ)
   now = seen r (r .clock) next due owed
 
   fit-tasks : Fits (taskRows r) (part 0 n next) (part 0 n due) (part 0 n owed)
-  fit-tasks = rows-fit (task-rows r s) next (part 0 n due) owed next-80 (part-length 0 n due (omega (arith, due-64, sound-fits r s .tasks))) owed-80
+  fit-tasks = rows-fit (task-rows r s) next (part 0 n due) owed next-long (part-length 0 n due (omega (arith, due-long, sound-fits r s .tasks))) owed-long
 
   fit-handlers : Fits (handlerRows r) (part n m next) (part n m next) (part n m owed)
-  fit-handlers = rows-fit (handler-rows r s) next (part n m next) owed next-80 (part-length n m next (omega (arith, next-80, handler-rows r s .within))) owed-80
+  fit-handlers = rows-fit (handler-rows r s) next (part n m next) owed next-long (part-length n m next (omega (arith, next-long, handler-rows r s .within))) owed-long
 
   -- The key of a task is that of the row at work at its place.
   task-key : (j : ℕ) → j < n → key (liveAt (taskRows r) (part 0 n next) (part 0 n due) (part 0 n owed) j) ≡ keyWith key r next due owed j

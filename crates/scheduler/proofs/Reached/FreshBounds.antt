@@ -18,7 +18,7 @@ use Rattle.demand.specs.Rows.{Row, rowsOf, width, tasksOf, handlersOf, rowAt, n
 use Rattle.demand.specs.declared.table.Kind.{Kind}
 use Rattle.demand.specs.declared.table.Kind.the-variants.{Task, Handler}
 use Rattle.scheduler.specs.Bounds.{miscounts, outsideAt, deadlineOutsideAt, placesUsed, InBounds}
-use Rattle.scheduler.specs.Runs.{rowIn, rowCount, Shaped}
+use Rattle.scheduler.specs.Runs.{rowIn, rowCount, Shaped, taskNumbers, handlerNumbers, rowPlaces}
 use Rattle.scheduler.specs.Scans.{used}
 use Rattle.scheduler.specs.Start.{padded, zeros, freshRun, freshOf}
 use Rattle.scheduler.specs.declared.Fresh.{Fresh}
@@ -89,38 +89,38 @@ module _ (t h : List ℕ) (e : tableRefusal t h ≡ 0) where
       go : (b : Bool) → ltb k (length (tasksOf t)) ≡ b → outsideAt (rowIn (freshRun t h)) k ≡ false
       go true q =
           let below = ltb-true k (length (tasksOf t)) q in
-          rw (q, padded-row Task 192 t k (table .tasks) below) (row-inside _ (each-at FairRow (tasksOf t) (table .in-range .tasks) k below))
+          rw (q, padded-row Task taskNumbers t k (table .tasks) below) (row-inside _ (each-at FairRow (tasksOf t) (table .in-range .tasks) k below))
       go false q =
           let above = ltb-false k (length (tasksOf t)) q in
           let i : ℕ = k - length (tasksOf t) in
           let below : i < length (handlersOf h) = omega arith in
-          rw (q, padded-row Handler 32 h i (table .handlers) below) (row-inside _ (each-at FairRow (handlersOf h) (table .in-range .handlers) i below))
+          rw (q, padded-row Handler handlerNumbers h i (table .handlers) below) (row-inside _ (each-at FairRow (handlersOf h) (table .in-range .handlers) i below))
 
   own : (k : ℕ) → k < length (tasksOf t) → deadlineOutsideAt (rowIn (freshRun t h)) k ≡ false
   unfolding freshRun
-  own k l = rw (lt-ltb k (length (tasksOf t)) l, padded-row Task 192 t k (table .tasks) l) (deadline-inside _ (each-at Sound (tasksOf t) (table .in-range .deadlines) k l))
+  own k l = rw (lt-ltb k (length (tasksOf t)) l, padded-row Task taskNumbers t k (table .tasks) l) (deadline-inside _ (each-at Sound (tasksOf t) (table .in-range .deadlines) k l))
 
   places : placesUsed (freshRun t h) ≡ false
   unfolding freshRun
   places =
       rw (
-        padded-unused 192 t (3 * length (tasksOf t)) (table .tasks),
-        padded-unused 32 h (2 * length (handlersOf h)) (table .handlers),
-        zeros-unused 80 (length (tasksOf t) + length (handlersOf h)),
-        zeros-unused 64 (length (tasksOf t)),
+        padded-unused taskNumbers t (3 * length (tasksOf t)) (table .tasks),
+        padded-unused handlerNumbers h (2 * length (handlersOf h)) (table .handlers),
+        zeros-unused rowPlaces (length (tasksOf t) + length (handlersOf h)),
+        zeros-unused tasksMost (length (tasksOf t)),
       )
 
   nothing-next : {x : ℕ} (k : ℕ) → getD (freshRun t h .next) k 0 ≤ x
   unfolding freshRun
-  nothing-next k = omega (arith, zeros-at 80 k)
+  nothing-next k = omega (arith, zeros-at rowPlaces k)
 
   nothing-due : {x : ℕ} (k : ℕ) → getD (freshRun t h .due) k 0 ≤ x
   unfolding freshRun
-  nothing-due k = omega (arith, zeros-at 64 k)
+  nothing-due k = omega (arith, zeros-at tasksMost k)
 
   nothing-owed : {x : ℕ} (k : ℕ) → getD (freshRun t h .owed) k 0 ≤ x
   unfolding freshRun
-  nothing-owed k = omega (arith, zeros-at 80 k)
+  nothing-owed k = omega (arith, zeros-at rowPlaces k)
 
   pub fresh-bounds : InBounds (freshRun t h)
   fresh-bounds =
@@ -144,11 +144,11 @@ module _ (t h : List ℕ) (e : tableRefusal t h ≡ 0) where
   pub fresh-shape : Shaped (freshRun t h)
   unfolding freshRun
   fresh-shape = record {
-    tasks-192 = padded-length 192 t (tasks-fit t h e);
-    handlers-32 = padded-length 32 h (handlers-fit t h e);
-    next-80 = zeros-length 80;
-    due-64 = zeros-length 64;
-    owed-80 = zeros-length 80;
+    tasks-long = padded-length taskNumbers t (tasks-fit t h e);
+    handlers-long = padded-length handlerNumbers h (handlers-fit t h e);
+    next-long = zeros-length rowPlaces;
+    due-long = zeros-length tasksMost;
+    owed-long = zeros-length rowPlaces;
   }
 
 -- A fresh run that is ready is that of a table without a refusal.

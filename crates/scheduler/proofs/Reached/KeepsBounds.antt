@@ -8,9 +8,9 @@ use borrow.Author.Tests.{ltb-true, ltb-false, le-ltb}
 use Prim.Native.Nat.{ℕ, _+_, _*_, _≤_, _<_}
 use lib.Dec.{ltb}
 use lib.ListN.{length, getD, drop}
-use Rattle.demand.specs.Limits.{ticksMost}
+use Rattle.demand.specs.Limits.{tasksMost, ticksMost}
 use Rattle.scheduler.specs.Bounds.{placesUsed, tooFar, tooMuch, tooMuchBehind, dueFar, dueBehind, missed, InBounds}
-use Rattle.scheduler.specs.Runs.{rowIn, rowCount, Shaped}
+use Rattle.scheduler.specs.Runs.{rowIn, rowCount, Shaped, rowPlaces}
 use Rattle.scheduler.specs.Scans.{at}
 use Rattle.scheduler.specs.Steps.{early, heavy}
 use Rattle.scheduler.specs.Tick.{nextAfter, dueAfter, nextArrived, dueArrived, owedArrived, GoesTo, served}
@@ -35,18 +35,18 @@ module _ (r : Run) (ws : List ℕ) (shaped : Shaped r) (p : Passed r ws) where
   before : Clauses r
   before = clauses r (p .in-bounds)
 
-  pub few : rowCount r ≤ 80
+  pub few : rowCount r ≤ rowPlaces
   few = let fit = clauses-fit r before in omega (arith, fit .tasks, fit .handlers)
 
   pub next-at : (k : ℕ) → k < rowCount r → getD nextNow k 0 ≡ nextAfter (r .clock) (rowIn r k) (getD ws k 0) (getD (r .next) k 0)
   unfolding nextArrived
-  next-at k l = filled-below (λ j. nextAfter (r .clock) (rowIn r j) (getD ws j 0) (getD (r .next) j 0)) (rowCount r) k (r .next) l (omega (arith, few, shaped .next-80))
+  next-at k l = filled-below (λ j. nextAfter (r .clock) (rowIn r j) (getD ws j 0) (getD (r .next) j 0)) (rowCount r) k (r .next) l (omega (arith, few, shaped .next-long))
 
   due-at : (k : ℕ) → k < r .«task_count» → getD dueNow k 0 ≡ dueAfter (r .clock) (rowIn r k) (getD ws k 0) (getD (r .due) k 0)
   unfolding dueArrived
   due-at k l =
       filled-below (λ j. dueAfter (r .clock) (rowIn r j) (getD ws j 0) (getD (r .due) j 0)) (r .«task_count») k (r .due) l
-      (omega (arith, clauses-fit r before .tasks, shaped .due-64))
+      (omega (arith, clauses-fit r before .tasks, shaped .due-long))
 
   pub due-moves : (k : ℕ) → k < r .«task_count» → 0 < getD ws k 0 → getD dueNow k 0 ≡ r .clock + rowIn r k .deadline
   due-moves k l some = due-at k l ∙ ahead-moves (r .clock) (rowIn r k .deadline) (getD ws k 0) (getD (r .due) k 0) some
@@ -54,17 +54,17 @@ module _ (r : Run) (ws : List ℕ) (shaped : Shaped r) (p : Passed r ws) where
   pub due-stays : (k : ℕ) → k < r .«task_count» → getD ws k 0 ≡ 0 → getD dueNow k 0 ≡ getD (r .due) k 0
   due-stays k l none = due-at k l ∙ ahead-stays (r .clock) (rowIn r k .deadline) (getD ws k 0) (getD (r .due) k 0) none
 
-  pub due-length : length dueNow ≡ 64
+  pub due-length : length dueNow ≡ tasksMost
   unfolding dueArrived
-  due-length = length-filled _ (r .«task_count») (r .due) ∙ shaped .due-64
+  due-length = length-filled _ (r .«task_count») (r .due) ∙ shaped .due-long
 
   pub owed-at : (k : ℕ) → k < rowCount r → getD owedNow k 0 ≡ getD (r .owed) k 0 + getD ws k 0
   unfolding owedArrived
-  owed-at k l = filled-below (λ j. getD (r .owed) j 0 + getD ws j 0) (rowCount r) k (r .owed) l (omega (arith, few, shaped .owed-80))
+  owed-at k l = filled-below (λ j. getD (r .owed) j 0 + getD ws j 0) (rowCount r) k (r .owed) l (omega (arith, few, shaped .owed-long))
 
-  pub owed-length : length owedNow ≡ 80
+  pub owed-length : length owedNow ≡ rowPlaces
   unfolding owedArrived
-  owed-length = length-filled _ (rowCount r) (r .owed) ∙ shaped .owed-80
+  owed-length = length-filled _ (rowCount r) (r .owed) ∙ shaped .owed-long
 
   pub arrival : (k : ℕ) → k < rowCount r → Came (r .clock) (rowIn r k) (getD (r .next) k 0) (getD ws k 0) (getD nextNow k 0)
   arrival k l =
@@ -162,9 +162,9 @@ module _ (r : Run) (ws : List ℕ) (shaped : Shaped r) (p : Passed r ws) where
     pub keeps-shape : Shaped after
     unfolding nextArrived
     keeps-shape = record {
-      tasks-192 = shaped .tasks-192;
-      handlers-32 = shaped .handlers-32;
-      next-80 = length-filled _ (rowCount r) (r .next) ∙ shaped .next-80;
-      due-64 = due-length;
-      owed-80 = paid-length owedNow (r .«task_count») ran ∙ owed-length;
+      tasks-long = shaped .tasks-long;
+      handlers-long = shaped .handlers-long;
+      next-long = length-filled _ (rowCount r) (r .next) ∙ shaped .next-long;
+      due-long = due-length;
+      owed-long = paid-length owedNow (r .«task_count») ran ∙ owed-length;
     }

@@ -14,7 +14,8 @@ use Rattle.demand.specs.Limits.{tasksMost, handlersMost, ticksMost}
 use Rattle.demand.specs.Refusals.{FairRow}
 use Rattle.demand.specs.Rows.{Sound}
 use Rattle.scheduler.specs.Bounds.{miscounts, outsideAt, deadlineOutsideAt, tableRefused, placesUsed, clockPast, tooFar, nextTooFar, tooMuch, taskTooMuch, tooMuchBehind, handlerTooMuch, dueFar, dueTooFar, dueBehind, dueAfterNext, missed, deadlineMissed, lateWrong, lateNamed, outOfBounds, InBounds}
-use Rattle.scheduler.specs.Runs.{rowIn, rowCount, Fitting}
+use Rattle.scheduler.specs.Runs.{rowIn, rowCount}
+use Rattle.scheduler.specs.Inside.Counted.{Fitting, TableFair, owedMost}
 use Rattle.scheduler.specs.Scans.{at, any}
 use Rattle.scheduler.specs.declared.Run.{Run}
 use Rattle.scheduler.proofs.Steps.RowPlaces.{fair-at, sound-at}
@@ -91,6 +92,9 @@ module _ (r : Run) (c : Clauses r) where
   pub clauses-fit : Fitting (r .«task_count») (r .«handler_count»)
   clauses-fit = fitting (r .«task_count») (r .«handler_count») (c .counts)
 
+  pub clauses-table : TableFair (r .tasks) (r .handlers) (r .«task_count») (r .«handler_count»)
+  clauses-table = record { fitting = clauses-fit; figures = c .figures; own = c .own }
+
   pub clauses-clock : r .clock ≤ ticksMost
   clauses-clock = ltb-false ticksMost (r .clock) (c .clock)
 
@@ -107,10 +111,10 @@ module _ (r : Run) (c : Clauses r) where
   clauses-handler i l = ltb-false _ _ (any-at (tooMuchBehind (r .clock) (rowIn r) (r .owed) (r .«task_count»)) (r .«handler_count») i (c .handlers) l)
 
   -- So no row is owed more than fits a word.
-  pub clauses-owed : (k : ℕ) → k < rowCount r → getD (r .owed) k 0 ≤ 1000000000000000
+  pub clauses-owed : (k : ℕ) → k < rowCount r → getD (r .owed) k 0 ≤ owedMost
   clauses-owed k l = go (le-or-lt (r .«task_count») k)
     where
-      go : (r .«task_count» ≤ k) ⊎ (k < r .«task_count») → getD (r .owed) k 0 ≤ 1000000000000000
+      go : (r .«task_count» ≤ k) ⊎ (k < r .«task_count») → getD (r .owed) k 0 ≤ owedMost
       go (inr m) = omega (arith, clauses-task k m, clauses-fair k l .cost .most)
       go (inl m) =
           let i : ℕ = k - r .«task_count» in

@@ -10,7 +10,8 @@ use lib.ListN.{getD}
 use Rattle.demand.proofs.Divide.{le-or-lt}
 use Rattle.demand.specs.Limits.{tasksMost, handlersMost}
 use Rattle.scheduler.specs.Scans.{any}
-use Rattle.scheduler.specs.Tick.{ToHandler, ToTask, GoesTo, earliest, toTask, owedAt, goesTo, Payable}
+use Rattle.scheduler.specs.Tick.{ToHandler, ToTask, GoesTo, earliest, toTask, owedAt, goesTo}
+use Rattle.scheduler.specs.Inside.Counted.{Payable}
 use Rattle.scheduler.specs.declared.Ran.{Ran}
 use Rattle.scheduler.specs.declared.Ran.the-variants.{Handler, Task, Idle}
 use Rattle.scheduler.specs.declared.tick.Best.{Best}

@@ -15,8 +15,9 @@ use Rattle.demand.specs.Limits.{ticksMost}
 use Rattle.demand.specs.Refusals.{rowOutside, deadlineOutside, FairRow}
 use Rattle.demand.specs.Rows.{Row, tasksOf, handlersOf, rowAt, Sound}
 use Rattle.scheduler.specs.Bounds.{miscounts, outsideAt, deadlineOutsideAt, placesUsed, clockPast, tooFar, tooMuch, tooMuchBehind, dueFar, dueBehind, passed, missed, lateWrong, lateNamed, outOfBounds, InBounds}
+use Rattle.scheduler.specs.Inside.Counted.{Fitting}
 use Rattle.scheduler.specs.Inside.OnePass.{earliestDue, taskOut, handlerOut, taskOutAt, handlerOutAt, heavyTask, heavyHandler}
-use Rattle.scheduler.specs.Runs.{rowOn, rowIn, rowCount, Fitting}
+use Rattle.scheduler.specs.Runs.{rowOn, rowIn, rowCount}
 use Rattle.scheduler.specs.Scans.{at, any}
 use Rattle.scheduler.specs.Steps.{heavy}
 use Rattle.scheduler.specs.declared.Run.{Run}

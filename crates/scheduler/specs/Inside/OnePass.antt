@@ -1,16 +1,23 @@
--- Refusals 6 and 11 as the code asks them: of each task, then of each handler, all clauses of a row at once. That they are the refusals is proved in proofs/Steps/OnePass.
+-- Refusals 6 and 11 as the code asks them: of each task, then of each handler, all clauses of a row at once.
+-- That they are the refusals is proved in proofs/Steps/OnePass.
 --   earliestDue over clock    == the earliest deadline that has not passed
 --   taskOut, handlerOut       == a clause is met by a row with this next arrival, deadline and work owed
 --   taskOutAt .. k            == by task k; handlerOutAt .. i by handler i
 --   heavyTask, heavyHandler   == refusal 11, of task k and of handler i
-use mathlib.Core.Bool.{Bool, _&&_, _||_}
+--   usedPast ..               == a place past the last row of these lists isn't 0
+--   lateOut over late first   == the late row is not that of the first late task, or is named where the run is not over
+use mathlib.Core.Bool.{Bool, not, _&&_, _||_}
 use mathlib.Core.List.{List}
 use Prim.Native.Nat.{ℕ, _+_, _*_}
 use lib.Dec.{ltb}
-use lib.ListN.{getD}
+use lib.ListN.{getD, drop}
 use Rattle.demand.specs.Refusals.{rowOutside, deadlineOutside}
 use Rattle.demand.specs.Rows.{Row, tasksOf, handlersOf, rowAt}
 use Rattle.demand.specs.Tests.{pick}
+use Rattle.scheduler.specs.Bounds.{names}
+use Rattle.scheduler.specs.Scans.{used}
+use Rattle.scheduler.specs.Tick.{isTask}
+use Rattle.scheduler.specs.declared.Late.{Late}
 
 abbrev pub earliestDue : Bool → ℕ → ℕ
 earliestDue over clock = pick over clock (clock + 1)
@@ -38,6 +45,17 @@ taskOutAt clock first t next due owed k = taskOut clock first (rowAt (tasksOf t)
 -- Handler i of the table's numbers h, behind n tasks.
 abbrev pub handlerOutAt : ℕ → List ℕ → List ℕ → List ℕ → ℕ → ℕ → Bool
 handlerOutAt clock h next owed n i = handlerOut clock (rowAt (handlersOf h) i) (getD next (n + i) 0) (getD owed (n + i) 0)
+
+abbrev pub usedPast : List ℕ → List ℕ → List ℕ → List ℕ → List ℕ → ℕ → ℕ → Bool
+usedPast t h next due owed n m =
+    used (drop (3 * n) t)
+    || used (drop (2 * m) h)
+    || used (drop (n + m) next)
+    || used (drop n due)
+    || used (drop (n + m) owed)
+
+abbrev pub lateOut : Bool → Late → Late → Bool
+lateOut over late first = (over && not (names late first)) || (not over && isTask late)
 
 abbrev pub heavyTask : List ℕ → List ℕ → ℕ → Bool
 heavyTask t ws k = ltb (rowAt (tasksOf t) k .cost) (getD ws k 0)

@@ -42,8 +42,8 @@ ahead-requires c κs =
     let row = rowOn (x .tasks .now) (x .handlers .now) (x .n) in
     let k = c .before .before .before .before .loop .k in
     let below = c .before .before .before .loop-test .taken in
-    let fair = fair-at row (x .n + x .m) k (c .before .before .before .before .before .before .pre .2) (omega (arith, below)) in
-    let sound = sound-at row (x .n) k (c .before .before .before .before .before .before .pre .3) below in
+    let fair = fair-at row (x .n + x .m) k (c .before .before .before .before .before .before .pre .0 .figures) (omega (arith, below)) in
+    let sound = sound-at row (x .n) k (c .before .before .before .before .before .before .pre .0 .own) below in
     let read = c .before .before .row-at .ensures in
     omega (arith, fair .period .most, sound .fits, ap (λ (r : Row). r .period) read, ap (λ (r : Row). r .deadline) read)
 

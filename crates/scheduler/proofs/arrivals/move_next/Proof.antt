@@ -39,7 +39,7 @@ shared-slice-read-ahead c = search needs
 ahead-requires : tie.Need-ahead-requires Inv-loop μ-loop
 ahead-requires c κs =
     let x = c .before .before .before .before .before .before .args in
-    let fair = fair-at (rowOn (x .tasks .now) (x .handlers .now) (x .n)) (x .n + x .m) (c .before .before .before .before .loop .k) (c .before .before .before .before .before .before .pre .2) (search needs) in
+    let fair = fair-at (rowOn (x .tasks .now) (x .handlers .now) (x .n)) (x .n + x .m) (c .before .before .before .before .loop .k) (c .before .before .before .before .before .before .pre .0 .figures) (search needs) in
     omega (arith, fair .period .most, ap (λ (r : Row). r .period) (c .before .before .row-at .ensures))
 
 mul-next : tie.Need-mul-next Inv-loop μ-loop

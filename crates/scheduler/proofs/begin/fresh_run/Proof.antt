@@ -16,9 +16,15 @@ slice-aggregate-copy-in-2 c = search needs
 copy-in-requires-2 : tie.Need-copy-in-requires-2
 copy-in-requires-2 c κs = handlers-fit _ _ (c .before .before .before .before .before .before .pre)
 
+count-requires : tie.Need-count-requires
+count-requires c κs = search needs
+
+count-requires-2 : tie.Need-count-requires-2
+count-requires-2 c κs = search needs
+
 returns : tie.Need-returns
 unfolding zeros
-returns c = fresh-made _ _ _ _ (c .before .before .before .before .copy-in .ensures) (c .before .copy-in2 .ensures)
+returns c = fresh-made _ _ _ _ _ _ (c .before .before .before .before .before .before .copy-in .ensures) (c .before .before .before .copy-in2 .ensures) (c .before .count .ensures) (c .count2 .ensures)
 
 pub fresh-run-spec : {M : Type 1} → statement M
 fresh-run-spec =
@@ -28,4 +34,6 @@ fresh-run-spec =
     copy-in-requires
     slice-aggregate-copy-in-2
     copy-in-requires-2
+    count-requires
+    count-requires-2
     returns)

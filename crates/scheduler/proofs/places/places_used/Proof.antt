@@ -1,15 +1,16 @@
+use native.Mathlib.Omega.{arith}
 use borrow.Author.Needs.{needs}
 use Rattle.scheduler.proofs.places.places_used.Statement.{statement}
 use Rattle.scheduler.proofs.places.places_used.Tie as tie
 
-mul-used-numbers : tie.Need-mul-used-numbers
-mul-used-numbers c = search needs
+numbers-requires : tie.Need-numbers-requires
+numbers-requires c κs = search needs
 
 used-numbers-requires : tie.Need-used-numbers-requires
 used-numbers-requires c κs = search needs
 
-mul-used-numbers-2 : tie.Need-mul-used-numbers-2
-mul-used-numbers-2 c = search needs
+numbers-requires-2 : tie.Need-numbers-requires-2
+numbers-requires-2 c κs = search needs
 
 used-numbers-requires-2 : tie.Need-used-numbers-requires-2
 used-numbers-requires-2 c κs = search needs
@@ -30,15 +31,18 @@ used-ticks-requires-3 : tie.Need-used-ticks-requires-3
 used-ticks-requires-3 c κs = search needs
 
 returns : tie.Need-returns
-returns c = rw (c .before .before .before .before .before .before .before .before .used-numbers .ensures, c .before .before .before .before .before .before .used-numbers2 .ensures, c .before .before .before .before .used-ticks .ensures, c .before .before .used-ticks2 .ensures, c .used-ticks3 .ensures)
+returns c =
+    let tasks = rw (c .before .before .before .before .before .before .before .before .before .before .numbers .ensures) at (c .before .before .before .before .before .before .before .before .before .used-numbers .ensures) in
+    let handlers = rw (c .before .before .before .before .before .before .before .numbers2 .ensures) at (c .before .before .before .before .before .before .used-numbers2 .ensures) in
+    rw (tasks, handlers, c .before .before .before .before .used-ticks .ensures, c .before .before .used-ticks2 .ensures, c .used-ticks3 .ensures)
 
 pub places-used-spec : {M : Type 1} → statement M
 places-used-spec =
     tie.close
     (tie.spec
-    mul-used-numbers
+    numbers-requires
     used-numbers-requires
-    mul-used-numbers-2
+    numbers-requires-2
     used-numbers-requires-2
     add-used-ticks
     used-ticks-requires

@@ -2,7 +2,7 @@ use mathlib.Core.Path.{_∙_}
 use native.Mathlib.Omega.{arith}
 use borrow.Author.Needs.{needs}
 use Rattle.scheduler.proofs.Steps.Answers.{passed}
-use Rattle.scheduler.proofs.Steps.Clauses.{clauses, clauses-fit, clauses-clock, clauses-owed}
+use Rattle.scheduler.proofs.Steps.Clauses.{clauses, clauses-fit, clauses-table, clauses-clock, clauses-owed}
 use Rattle.scheduler.proofs.Steps.Goes.{goes-pays}
 use Rattle.scheduler.proofs.Steps.Ticks.{tick-made}
 use Rattle.scheduler.proofs.tick.ticked.Statement.{statement}
@@ -12,13 +12,13 @@ move-next-requires : tie.Need-move-next-requires
 move-next-requires c κs =
     let p = passed _ _ (c .before .before .before .before .before .before .before .before .pre) in
     let b = clauses _ (p .in-bounds) in
-    (clauses-fit _ b, clauses-clock _ b, b .figures, p .count)
+    (clauses-table _ b, clauses-clock _ b, p .count)
 
 move-due-requires : tie.Need-move-due-requires
 move-due-requires c κs =
     let p = passed _ _ (c .before .before .before .before .before .before .before .before .before .before .before .before .before .pre) in
     let b = clauses _ (p .in-bounds) in
-    (clauses-fit _ b, clauses-clock _ b, b .figures, b .own, p .count)
+    (clauses-table _ b, clauses-clock _ b, p .count)
 
 add-work-requires : tie.Need-add-work-requires
 add-work-requires c κs =

@@ -1,7 +1,7 @@
 use Prim.Native.Nat.{_≤_, _-_}
 use borrow.Author.Needs.{needs}
-use Rattle.ticks.proofs.case_13.Statement.{statement}
-use Rattle.ticks.proofs.case_13.Tie as tie
+use Rattle.ticks.proofs.cases.case_13.Statement.{statement}
+use Rattle.ticks.proofs.cases.case_13.Tie as tie
 
 abbrev Inv-loop : tie.InvT-loop
 Inv-loop run₀ t₀ t4 t5 run t = t ≤ 10

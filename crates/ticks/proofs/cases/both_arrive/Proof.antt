@@ -1,7 +1,7 @@
 use Prim.Native.Nat.{_≤_, _-_}
 use borrow.Author.Needs.{needs}
-use Rattle.ticks.proofs.both_arrive.Statement.{statement}
-use Rattle.ticks.proofs.both_arrive.Tie as tie
+use Rattle.ticks.proofs.cases.both_arrive.Statement.{statement}
+use Rattle.ticks.proofs.cases.both_arrive.Tie as tie
 
 abbrev Inv-loop : tie.InvT-loop
 Inv-loop c p d q ticks run₀ t₀ t9 t10 run t = t ≤ ticks
