@@ -39,7 +39,8 @@ clash P e =
     absurd f
 
 -- At the start of a line all that was read is rows and line ends.
-holds-start : (cols : Columns) (st : State) (es : List Entry) (l : List ℕ) → isStart st ≡ true → Holds cols st es l → AllLawful cols es × (fileText cols es ++ crlf ≡ l)
+holds-start : (cols : Columns) (st : State) (es : List Entry) (l : List ℕ) → isStart st ≡ true → Holds cols st es l →
+    AllLawful cols es × (fileText cols es ++ crlf ≡ l)
 unfolding Holds
 holds-start cols Start es l t h = h
 holds-start cols Broken es l t h = clash _ t
@@ -61,7 +62,8 @@ Ends cols l fs = AllLawful cols fs × ((l ≡ fileText cols fs) ⊎ (l ≡ fileT
 
 module _ (cols : Columns) (bs : List ℕ) (fs : List Entry) where
   -- The last line lacked its CRLF.
-  ends-short : isStart (readFrom cols (readOver cols bs) crlf .st) ≡ true → some (readFrom cols (readOver cols bs) crlf .rows) ≡ some fs → Ends cols bs fs
+  ends-short : isStart (readFrom cols (readOver cols bs) crlf .st) ≡ true →
+      some (readFrom cols (readOver cols bs) crlf .rows) ≡ some fs → Ends cols bs fs
   ends-short t e =
       let w = readFrom cols (readOver cols bs) crlf in
       let q : w .rows ≡ fs = cc in
@@ -101,7 +103,8 @@ sound bs fs e =
 
 -- ---- a text is accepted
 
-accepted : (cols : Columns) (bs : List ℕ) (es : List Entry) → AllLawful cols es → (bs ≡ fileText cols es) ⊎ (bs ≡ fileText cols es ++ crlf) → rowsAtEnd cols (readOver cols bs) ≡ some es
+accepted : (cols : Columns) (bs : List ℕ) (es : List Entry) → AllLawful cols es →
+    (bs ≡ fileText cols es) ⊎ (bs ≡ fileText cols es ++ crlf) → rowsAtEnd cols (readOver cols bs) ≡ some es
 accepted cols bs es s (inl e) =
     ap (λ (x : List ℕ). rowsAtEnd cols (readOver cols x)) e
     ∙ ap (λ (w : Reading). pick (isStart (w .st)) (some (w .rows)) (pick (isStart (readOver cols (fileText cols es) .st)) (some (readOver cols (fileText cols es) .rows)) none)) (read-text cols es s)
@@ -134,7 +137,8 @@ says-unique bs es fs s t =
 
 -- ---- and a file says 408 rows at most
 
-written-least : (bs : List ℕ) (cols : Columns) (es : List Entry) → (bs ≡ fileText cols es) ⊎ (bs ≡ fileText cols es ++ crlf) → headerLeast + length es * lineLeast ≤ length bs
+written-least : (bs : List ℕ) (cols : Columns) (es : List Entry) → (bs ≡ fileText cols es) ⊎ (bs ≡ fileText cols es ++ crlf) →
+    headerLeast + length es * lineLeast ≤ length bs
 written-least bs cols es (inl e) = omega (arith, ap length e, file-text-least cols es)
 written-least bs cols es (inr e) = omega (arith, ap length e, length-append (fileText cols es) crlf, file-text-least cols es)
 

@@ -24,7 +24,8 @@ body-append [] fs = refl
 body-append (e ∷ es) fs = simp (body-append es fs, append-assoc)
 
 pub file-text-append : (cols : Columns) (es fs : List Entry) → fileText cols (es ++ fs) ≡ fileText cols es ++ body fs
-file-text-append cols es fs = ap (λ (z : List ℕ). headerOf cols ++ z) (body-append es fs) ∙ sym (append-assoc (headerOf cols) (body es) (body fs))
+file-text-append cols es fs =
+    ap (λ (z : List ℕ). headerOf cols ++ z) (body-append es fs) ∙ sym (append-assoc (headerOf cols) (body es) (body fs))
 
 -- A row up to its cost, the cost, and the rest of the file.
 row-splits : (kind : Kind) (c p : ℕ) (last : Last) (fs : List Entry) →

@@ -25,12 +25,15 @@ lines-most w numbers few = simp length-append (omega (arith, word-most w, fields
 
 -- The chain of calls that writes them: the header, the word, the numbers, the line end.
 module _ (word numbers : List ℕ) where
-  gathered : putsOf (putsOf (putsOf (putsOf blankText (heading ++ crlf)) word) (fieldsOf numbers)) crlf ≡ putsOf blankText (lines word numbers)
+  gathered :
+      putsOf (putsOf (putsOf (putsOf blankText (heading ++ crlf)) word) (fieldsOf numbers)) crlf
+      ≡ putsOf blankText (lines word numbers)
   unfolding lines
   gathered = simp (← puts-append, append-assoc)
 
   pub chained : {head named listed r : Text} →
-      head ≡ putsOf blankText (heading ++ crlf) → named ≡ putsOf head word → listed ≡ putsOf named (fieldsOf numbers) → r ≡ putsOf listed crlf →
+      head ≡ putsOf blankText (heading ++ crlf) → named ≡ putsOf head word →
+      listed ≡ putsOf named (fieldsOf numbers) → r ≡ putsOf listed crlf →
       r ≡ putsOf blankText (lines word numbers)
   chained e1 e2 e3 e = cc gathered
 

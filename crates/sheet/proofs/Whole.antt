@@ -38,7 +38,8 @@ module _ (bs : List ℕ) (t : Table) (out : Output) where
   broken-sheet (inl r) broken e = clash _ (sym (ap (λ (x : Table). x .ok) (r .2)) ∙ broken)
   broken-sheet (inr r) broken e = record { sheet = refusalOf 12; figures = inr (r .0, refl); written = e }
 
-  pub table-sheet : ReadSays bs t → t .ok ≡ true → (a : Answer) → TableFigures (t .misplaced) (listed (t .tasks)) (listed (t .handlers)) (figures a) → out ≡ outputOf (figures a) → SheetSays bs out
+  pub table-sheet : ReadSays bs t → t .ok ≡ true → (a : Answer) →
+      TableFigures (t .misplaced) (listed (t .tasks)) (listed (t .handlers)) (figures a) → out ≡ outputOf (figures a) → SheetSays bs out
   unfolding ReadSays
   table-sheet (inl r) ok a says e =
       let deadline : t .misplaced ≡ misplaced (r .0) = ap (λ (x : Table). x .misplaced) (r .2) in
@@ -65,11 +66,13 @@ module _ (t h : List ℕ) (a : Answer) where
   misplaced-answer false n e number told = clash _ (sym e)
 
   -- Where the table's own refusal is k.
-  pub misplaced-thirteen : (m : Bool) (k : ℕ) → m ≡ true → k ≡ tableRefusal t h → k ≡ 0 → a ≡ answer.Refused 13 → TableFigures m t h (figures a)
+  pub misplaced-thirteen : (m : Bool) (k : ℕ) → m ≡ true → k ≡ tableRefusal t h → k ≡ 0 → a ≡ answer.Refused 13 →
+      TableFigures m t h (figures a)
   misplaced-thirteen m k e own none told =
       misplaced-answer m 13 e (sym (ap (λ (b : Bool). pick b 13 (tableRefusal t h)) (eq-eqb _ _ (sym own ∙ none)))) told
 
-  pub misplaced-own : (m : Bool) (k : ℕ) → m ≡ true → k ≡ tableRefusal t h → (k ≡ 0 → ⊥) → a ≡ answer.Refused k → TableFigures m t h (figures a)
+  pub misplaced-own : (m : Bool) (k : ℕ) → m ≡ true → k ≡ tableRefusal t h → (k ≡ 0 → ⊥) → a ≡ answer.Refused k →
+      TableFigures m t h (figures a)
   misplaced-own m k e own some told =
       misplaced-answer m k e (own ∙ sym (ap (λ (b : Bool). pick b 13 (tableRefusal t h)) (ne-eqb _ _ (λ z. some (own ∙ z))))) told
 

@@ -100,7 +100,8 @@ decimal-most n = last-length 20 n
 
 pub fields-append : (ms ns : List ℕ) → fieldsOf (ms ++ ns) ≡ fieldsOf ms ++ fieldsOf ns
 fields-append [] ns = refl
-fields-append (m ∷ ms) ns = ap (λ (z : List ℕ). field m ++ z) (fields-append ms ns) ∙ sym (append-assoc (field m) (fieldsOf ms) (fieldsOf ns))
+fields-append (m ∷ ms) ns =
+    ap (λ (z : List ℕ). field m ++ z) (fields-append ms ns) ∙ sym (append-assoc (field m) (fieldsOf ms) (fieldsOf ns))
 
 -- One more at the end.
 pub fields-next : (ns : List ℕ) (n : ℕ) → fieldsOf (ns ++ (n ∷ [])) ≡ fieldsOf ns ++ field n

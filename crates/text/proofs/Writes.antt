@@ -38,7 +38,8 @@ puts-digit t n h = put-one t (48 + n) ∙ ap (putsOf t) (sym (decimal-one n h))
 
 pub puts-digits : (t : Text) (n : ℕ) → 10 ≤ n → n < 2 ^ 64 → putOf (putsOf t (decimal (n / 10))) (48 + n % 10) ≡ putsOf t (decimal n)
 puts-digits t n l h =
-    put-one (putsOf t (decimal (n / 10))) (48 + n % 10) ∙ sym (puts-append t (decimal (n / 10)) ((48 + n % 10) ∷ [])) ∙ ap (putsOf t) (sym (decimal-next n l h))
+    put-one (putsOf t (decimal (n / 10))) (48 + n % 10) ∙ sym (puts-append t (decimal (n / 10)) ((48 + n % 10) ∷ []))
+    ∙ ap (putsOf t) (sym (decimal-next n l h))
 
 -- ---- fields
 

@@ -49,9 +49,12 @@ longer-by s (x ∷ xs) h =
 
 list-next : (kind : Kind) (es : List Entry) (e : Entry) → listOf kind (es ++ (e ∷ [])) ≡ listOf kind es ++ entryNumbers kind e
 list-next kind [] e = append-nil (entryNumbers kind e)
-list-next kind (x ∷ es) e = ap (λ (z : List ℕ). entryNumbers kind x ++ z) (list-next kind es e) ∙ sym (append-assoc (entryNumbers kind x) (listOf kind es) (entryNumbers kind e))
+list-next kind (x ∷ es) e =
+    ap (λ (z : List ℕ). entryNumbers kind x ++ z) (list-next kind es e)
+    ∙ sym (append-assoc (entryNumbers kind x) (listOf kind es) (entryNumbers kind e))
 
-flat-next : (kind : Kind) (es : List Entry) (e : Entry) → length (listOf kind (es ++ (e ∷ []))) ≤ flatMost → longerBy (flatOf (listOf kind es)) (entryNumbers kind e) ≡ flatOf (listOf kind (es ++ (e ∷ [])))
+flat-next : (kind : Kind) (es : List Entry) (e : Entry) → length (listOf kind (es ++ (e ∷ []))) ≤ flatMost →
+    longerBy (flatOf (listOf kind es)) (entryNumbers kind e) ≡ flatOf (listOf kind (es ++ (e ∷ [])))
 flat-next kind es e h =
     let most : length (listOf kind es) + length (entryNumbers kind e) ≤ flatMost =
     omega (arith, ap length (list-next kind es e), length-append (listOf kind es) (entryNumbers kind e)) in
@@ -64,7 +67,8 @@ either-way false b c = refl
 
 misplaced-next : (es : List Entry) (e : Entry) → misplaced (es ++ (e ∷ [])) ≡ misplacedIn e || misplaced es
 misplaced-next [] e = refl
-misplaced-next (x ∷ es) e = ap (λ (z : Bool). misplacedIn x || z) (misplaced-next es e) ∙ either-way (misplacedIn x) (misplacedIn e) (misplaced es)
+misplaced-next (x ∷ es) e =
+    ap (λ (z : Bool). misplacedIn x || z) (misplaced-next es e) ∙ either-way (misplacedIn x) (misplacedIn e) (misplaced es)
 
 pushed-next : (es : List Entry) (e : Entry) → length es < rowsMost → pushed (tableOf es) e ≡ tableOf (es ++ (e ∷ []))
 pushed-next es e h =
@@ -84,7 +88,8 @@ grown-next es (e ∷ fs) h =
 
 -- ---- one byte more, and the end
 
-fed-next : (es : List Entry) (st : State) (b : ℕ) → length (es ++ added st b) ≤ rowsMost → fed (tableOf es) st b ≡ tableOf (es ++ added st b)
+fed-next : (es : List Entry) (st : State) (b : ℕ) → length (es ++ added st b) ≤ rowsMost →
+    fed (tableOf es) st b ≡ tableOf (es ++ added st b)
 fed-next es st b h = grown-next es (added st b) (omega (arith, length-append es (added st b)))
 
 -- What an outcome comes to as a table.
@@ -92,7 +97,8 @@ abbrev pub tableFor : Outcome → Table
 tableFor none = brokenTable
 tableFor (some es) = tableOf es
 
-table-at-end : (cols : Columns) (w : Reading) → length (readFrom cols w crlf .rows) ≤ rowsMost → tableAtEnd cols (tableOf (w .rows)) (w .st) ≡ tableFor (rowsAtEnd cols w)
+table-at-end : (cols : Columns) (w : Reading) → length (readFrom cols w crlf .rows) ≤ rowsMost →
+    tableAtEnd cols (tableOf (w .rows)) (w .st) ≡ tableFor (rowsAtEnd cols w)
 table-at-end cols w h =
     let cr = afterByte cols (w .st) 13 in
     by (λ t. pick t (fed (tableOf (w .rows)) (afterByte cols (w .st) 13) 10) (pick (isStart (w .st)) (tableOf (w .rows)) brokenTable)
@@ -113,7 +119,8 @@ module _ (cols : Columns) (t r : Table) (st cr lf : State) (first : cr ≡ after
       ∙ sym (ap (λ (b : Bool). pick b (fed t (afterByte cols st 13) 10) (pick (isStart st) t brokenTable)) (at-end ∙ e))
 
   pub table-at-end-full : isStart lf ≡ false → r ≡ pick (isStart st) t brokenTable → r ≡ tableAtEnd cols t st
-  table-at-end-full e f = f ∙ sym (ap (λ (b : Bool). pick b (fed t (afterByte cols st 13) 10) (pick (isStart st) t brokenTable)) (at-end ∙ e))
+  table-at-end-full e f =
+      f ∙ sym (ap (λ (b : Bool). pick b (fed t (afterByte cols st 13) 10) (pick (isStart st) t brokenTable)) (at-end ∙ e))
 
 -- ---- the reader's loop: before the byte at i it stands where the reading over the first i bytes does
 
@@ -121,7 +128,8 @@ pub read-append : (cols : Columns) (w : Reading) (xs ys : List ℕ) → readFrom
 read-append cols w [] ys = refl
 read-append cols w (x ∷ xs) ys = read-append cols (next cols w x) xs ys
 
-read-take : (cols : Columns) (bs : List ℕ) (i : ℕ) → i < length bs → readOver cols (take (i + 1) bs) ≡ next cols (readOver cols (take i bs)) (getD bs i 0)
+read-take : (cols : Columns) (bs : List ℕ) (i : ℕ) → i < length bs →
+    readOver cols (take (i + 1) bs) ≡ next cols (readOver cols (take i bs)) (getD bs i 0)
 read-take cols bs i h =
     ap (λ (n : ℕ). readOver cols (take n bs)) (add-one i) ∙ ap (readOver cols) (take-suc bs i 0 h)
     ∙ read-append cols (record { st = Head 0; rows = [] }) (take i bs) (getD bs i 0 ∷ [])
@@ -133,10 +141,12 @@ module _ (cols : Columns) (bs : List ℕ) (small : length bs ≤ fileMost) where
   pub loop-room : (i : ℕ) (t : Table) → t ≡ tableOf (readOver cols (take i bs) .rows) → Room t
   loop-room i t e = rw e (room (readOver cols (take i bs) .rows) (take-most i))
 
-  pub loop-state : (i : ℕ) (st : State) → i < length bs → st ≡ readOver cols (take i bs) .st → afterByte cols st (getD bs i 0) ≡ readOver cols (take (i + 1) bs) .st
+  pub loop-state : (i : ℕ) (st : State) → i < length bs → st ≡ readOver cols (take i bs) .st →
+      afterByte cols st (getD bs i 0) ≡ readOver cols (take (i + 1) bs) .st
   loop-state i st h e = ap (λ (s : State). afterByte cols s (getD bs i 0)) e ∙ sym (ap (λ (w : Reading). w .st) (read-take cols bs i h))
 
-  pub loop-table : (i : ℕ) (t : Table) (st : State) → i < length bs → st ≡ readOver cols (take i bs) .st → t ≡ tableOf (readOver cols (take i bs) .rows) → fed t st (getD bs i 0) ≡ tableOf (readOver cols (take (i + 1) bs) .rows)
+  pub loop-table : (i : ℕ) (t : Table) (st : State) → i < length bs → st ≡ readOver cols (take i bs) .st →
+      t ≡ tableOf (readOver cols (take i bs) .rows) → fed t st (getD bs i 0) ≡ tableOf (readOver cols (take (i + 1) bs) .rows)
   loop-table i t st h e f =
       let before = readOver cols (take i bs) in
       let after : readOver cols (take (i + 1) bs) .rows ≡ before .rows ++ added (before .st) (getD bs i 0) = ap (λ (w : Reading). w .rows) (read-take cols bs i h) in
@@ -144,7 +154,8 @@ module _ (cols : Columns) (bs : List ℕ) (small : length bs ≤ fileMost) where
       ∙ fed-next (before .rows) (before .st) (getD bs i 0) (omega (arith, ap length after, take-most (i + 1)))
       ∙ sym (ap tableOf after)
 
-  pub loop-ends : (i : ℕ) (t : Table) (st : State) → cols ≡ columnsOf bs → length bs ≤ i → st ≡ readOver cols (take i bs) .st → t ≡ tableOf (readOver cols (take i bs) .rows) → tableAtEnd cols t st ≡ tableFor (outcome bs)
+  pub loop-ends : (i : ℕ) (t : Table) (st : State) → cols ≡ columnsOf bs → length bs ≤ i → st ≡ readOver cols (take i bs) .st →
+      t ≡ tableOf (readOver cols (take i bs) .rows) → tableAtEnd cols t st ≡ tableFor (outcome bs)
   loop-ends i t st told h e f =
       let last : length (readFrom cols (readOver cols bs) crlf .rows) ≤ rowsMost =
       omega (arith, ap (λ (w : Reading). length (w .rows)) (read-append cols (record { st = Head 0; rows = [] }) bs crlf), read-most cols (bs ++ crlf), length-append bs crlf) in
@@ -155,4 +166,5 @@ module _ (cols : Columns) (bs : List ℕ) (small : length bs ≤ fileMost) where
       ∙ sym (ap (λ (b : Bool). tableFor (pick b none (rowsAtEnd (columnsOf bs) (readOver (columnsOf bs) bs)))) (le-ltb fileMost (length bs) small))
 
 pub over-long : (bs : List ℕ) → fileMost < length bs → brokenTable ≡ tableFor (outcome bs)
-over-long bs h = sym (ap (λ (b : Bool). tableFor (pick b none (rowsAtEnd (columnsOf bs) (readOver (columnsOf bs) bs)))) (lt-ltb fileMost (length bs) h))
+over-long bs h =
+    sym (ap (λ (b : Bool). tableFor (pick b none (rowsAtEnd (columnsOf bs) (readOver (columnsOf bs) bs)))) (lt-ltb fileMost (length bs) h))

@@ -62,7 +62,8 @@ file-text-least cols es = omega (arith, length-append (headerOf cols) (body es),
 abbrev Roomy : List Entry → List ℕ → Type 0
 Roomy es l = length es * lineLeast ≤ length l - (headerLeast + 2)
 
-row-least : (cols : Columns) (kind : Kind) (c p : ℕ) (last : Last) (es : List Entry) (l : List ℕ) → Holds cols (RowCr kind c p last) es l → (length es + 1) * lineLeast ≤ length l + 1 - (headerLeast + 2)
+row-least : (cols : Columns) (kind : Kind) (c p : ℕ) (last : Last) (es : List Entry) (l : List ℕ) →
+    Holds cols (RowCr kind c p last) es l → (length es + 1) * lineLeast ≤ length l + 1 - (headerLeast + 2)
 unfolding Holds
 row-least cols kind c p last es l h =
     omega (
@@ -75,7 +76,8 @@ row-least cols kind c p last es l h =
     )
 
 -- With the row that is done at st.
-roomy-done : (cols : Columns) (st : State) (es : List Entry) (l : List ℕ) → Holds cols st es l → Roomy es l → (length es + length (done st)) * lineLeast ≤ length l + 1 - (headerLeast + 2)
+roomy-done : (cols : Columns) (st : State) (es : List Entry) (l : List ℕ) → Holds cols st es l → Roomy es l →
+    (length es + length (done st)) * lineLeast ≤ length l + 1 - (headerLeast + 2)
 roomy-done cols Broken es l h m = omega arith
 roomy-done cols (Head k) es l h m = omega arith
 roomy-done cols HeadCr es l h m = omega arith
@@ -85,13 +87,15 @@ roomy-done cols (First place) es l h m = omega arith
 roomy-done cols (Digits place v) es l h m = omega arith
 roomy-done cols (RowCr kind c p last) es l h m = row-least cols kind c p last es l h
 
-roomy-step : (cols : Columns) (st : State) (es : List Entry) (l : List ℕ) (b : ℕ) → Holds cols st es l → Roomy es l → Roomy (es ++ added st b) (l ++ (b ∷ []))
+roomy-step : (cols : Columns) (st : State) (es : List Entry) (l : List ℕ) (b : ℕ) → Holds cols st es l → Roomy es l →
+    Roomy (es ++ added st b) (l ++ (b ∷ []))
 roomy-step cols st es l b h m =
     by (λ t. Roomy (es ++ pick t (done st) []) (l ++ (b ∷ []))) (eqb b 10)
     (λ e. omega (arith, length-append es (done st), length-append l (b ∷ []), roomy-done cols st es l h m))
     (λ e. rw append-nil (omega (arith, length-append l (b ∷ []))))
 
-roomy-from : (cols : Columns) (w : Reading) (l bs : List ℕ) → Holds cols (w .st) (w .rows) l → Roomy (w .rows) l → Roomy (readFrom cols w bs .rows) (l ++ bs)
+roomy-from : (cols : Columns) (w : Reading) (l bs : List ℕ) → Holds cols (w .st) (w .rows) l → Roomy (w .rows) l →
+    Roomy (readFrom cols w bs .rows) (l ++ bs)
 roomy-from cols w l [] h m = rw append-nil m
 roomy-from cols w l (b ∷ bs) h m =
     rw append-assoc at

@@ -43,7 +43,8 @@ Holds cols HeadCr es l = (es ≡ []) × (headerOf cols ++ (13 ∷ []) ≡ l)
 Holds cols Start es l = AllLawful cols es × (fileText cols es ++ crlf ≡ l)
 Holds cols (Name kind k) es l = AllLawful cols es × (k ≤ length (nameOf kind)) × (fileText cols es ++ (crlf ++ take k (nameOf kind)) ≡ l)
 Holds cols (First place) es l = AllLawful cols es × Told cols place × (fileText cols es ++ (crlf ++ upTo place) ≡ l)
-Holds cols (Digits place v) es l = AllLawful cols es × Told cols place × Short v × (fileText cols es ++ (crlf ++ (upTo place ++ decimal v)) ≡ l)
+Holds cols (Digits place v) es l =
+    AllLawful cols es × Told cols place × Short v × (fileText cols es ++ (crlf ++ (upTo place ++ decimal v)) ≡ l)
 Holds cols (RowCr kind c p last) es l =
     AllLawful cols es × Lawful cols (entry kind c p last) × (fileText cols es ++ (crlf ++ (entryText (entry kind c p last) ++ (13 ∷ []))) ≡ l)
 
@@ -61,7 +62,8 @@ lawful-next cols [] e f s = (s, tt)
 lawful-next cols (x ∷ es) e f s = (f .0, lawful-next cols es e (f .1) s)
 
 file-text-next : (cols : Columns) (es : List Entry) (e : Entry) → fileText cols (es ++ (e ∷ [])) ≡ fileText cols es ++ (crlf ++ entryText e)
-file-text-next cols es e = file-text-append cols es (e ∷ []) ∙ ap (λ (z : List ℕ). fileText cols es ++ (crlf ++ z)) (append-nil (entryText e))
+file-text-next cols es e =
+    file-text-append cols es (e ∷ []) ∙ ap (λ (z : List ℕ). fileText cols es ++ (crlf ++ z)) (append-nil (entryText e))
 
 -- A row's line end, its CR and its LF.
 line-end : (x : List ℕ) (b : ℕ) → b ≡ 10 → (crlf ++ x) ++ crlf ≡ (crlf ++ (x ++ (13 ∷ []))) ++ (b ∷ [])
@@ -69,7 +71,8 @@ line-end x b e = simp (append-assoc, e)
 
 up-to-period : (kind : Kind) (c v : ℕ) → upTo (Period kind c) ++ decimal v ≡ nameOf kind ++ (field c ++ field v)
 up-to-period kind c v =
-    append-assoc (nameOf kind) (field c ++ (comma ∷ [])) (decimal v) ∙ ap (λ (z : List ℕ). nameOf kind ++ z) (append-assoc (field c) (comma ∷ []) (decimal v))
+    append-assoc (nameOf kind) (field c ++ (comma ∷ [])) (decimal v)
+    ∙ ap (λ (z : List ℕ). nameOf kind ++ z) (append-assoc (field c) (comma ∷ []) (decimal v))
 
 up-to-deadline : (kind : Kind) (c p v : ℕ) → upTo (Deadline kind c p) ++ decimal v ≡ entryText (entry kind c p (Number v))
 up-to-deadline kind c p v =
@@ -89,22 +92,25 @@ to-behind-period : (cols : Columns) (es : List Entry) (l : List ℕ) (b : ℕ) (
     Holds cols (Digits (Period kind c) v) es l → b ≡ behindPeriod cols → Holds cols (afterPeriod cols kind c v) es (l ++ (b ∷ []))
 unfolding Holds
 to-behind-period Three es l b kind c v h e =
-    let rowsAtEnd : entryText (entry kind c v NoField) ≡ upTo (Period kind c) ++ decimal v =
+    let row : entryText (entry kind c v NoField) ≡ upTo (Period kind c) ++ decimal v =
     ap (λ (z : List ℕ). nameOf kind ++ (field c ++ z)) (append-nil (field v)) ∙ sym (up-to-period kind c v) in
     let cr : crlf ++ (entryText (entry kind c v NoField) ++ (13 ∷ [])) ≡ crlf ++ ((upTo (Period kind c) ++ decimal v) ++ (b ∷ [])) =
-    ap (λ (z : List ℕ). crlf ++ (z ++ (13 ∷ []))) rowsAtEnd ∙ ap (λ (x : ℕ). crlf ++ ((upTo (Period kind c) ++ decimal v) ++ (x ∷ []))) (sym e) in
+    ap (λ (z : List ℕ). crlf ++ (z ++ (13 ∷ []))) row
+    ∙ ap (λ (x : ℕ). crlf ++ ((upTo (Period kind c) ++ decimal v) ++ (x ∷ []))) (sym e) in
     (h .0, (h .1, h .2, tt), more (fileText Three es) (crlf ++ (upTo (Period kind c) ++ decimal v)) _ l b cr (h .3))
 to-behind-period Four es l b kind c v h e =
     (h .0, (h .1, h .2, refl), more (fileText Four es) (crlf ++ (upTo (Period kind c) ++ decimal v)) _ l b (simp (append-assoc, e)) (h .3))
 
 module _ (cols : Columns) (es : List Entry) (l : List ℕ) (b : ℕ) where
-  to-head : (k : ℕ) → Holds cols (Head k) es l → k < length (headerOf cols) → b ≡ getD (headerOf cols) k 0 → Holds cols (Head (k + 1)) es (l ++ (b ∷ []))
+  to-head : (k : ℕ) → Holds cols (Head k) es l → k < length (headerOf cols) → b ≡ getD (headerOf cols) k 0 →
+      Holds cols (Head (k + 1)) es (l ++ (b ∷ []))
   unfolding Holds
   to-head k h t e = (h .0, omega arith, take-next (headerOf cols) k b t e ∙ ap (λ (z : List ℕ). z ++ (b ∷ [])) (h .2))
 
   to-head-cr : (k : ℕ) → Holds cols (Head k) es l → length (headerOf cols) ≤ k → b ≡ 13 → Holds cols HeadCr es (l ++ (b ∷ []))
   unfolding Holds
-  to-head-cr k h t e = (h .0, ap (λ (x : ℕ). headerOf cols ++ (x ∷ [])) (sym e) ∙ ap (λ (z : List ℕ). z ++ (b ∷ [])) (sym (take-all k (headerOf cols) t) ∙ h .2))
+  to-head-cr k h t e =
+      (h .0, ap (λ (x : ℕ). headerOf cols ++ (x ∷ [])) (sym e) ∙ ap (λ (z : List ℕ). z ++ (b ∷ [])) (sym (take-all k (headerOf cols) t) ∙ h .2))
 
   to-start : Holds cols HeadCr es l → b ≡ 10 → Holds cols Start es (l ++ (b ∷ []))
   unfolding Holds
@@ -120,12 +126,14 @@ module _ (cols : Columns) (es : List Entry) (l : List ℕ) (b : ℕ) where
   to-name Task h e = (h .0, omega arith, more (fileText cols es) crlf _ l b (ap (λ (x : ℕ). 13 ∷ (10 ∷ (x ∷ []))) (sym e)) (h .1))
   to-name Handler h e = (h .0, omega arith, more (fileText cols es) crlf _ l b (ap (λ (x : ℕ). 13 ∷ (10 ∷ (x ∷ []))) (sym e)) (h .1))
 
-  to-letter : (kind : Kind) (k : ℕ) → Holds cols (Name kind k) es l → k < length (nameOf kind) → b ≡ getD (nameOf kind) k 0 → Holds cols (Name kind (k + 1)) es (l ++ (b ∷ []))
+  to-letter : (kind : Kind) (k : ℕ) → Holds cols (Name kind k) es l → k < length (nameOf kind) → b ≡ getD (nameOf kind) k 0 →
+      Holds cols (Name kind (k + 1)) es (l ++ (b ∷ []))
   unfolding Holds
   to-letter kind k h t e =
       (h .0, omega arith, more (fileText cols es) (crlf ++ take k (nameOf kind)) _ l b (ap (λ (z : List ℕ). crlf ++ z) (take-next (nameOf kind) k b t e)) (h .2))
 
-  to-cost : (kind : Kind) (k : ℕ) → Holds cols (Name kind k) es l → length (nameOf kind) ≤ k → b ≡ comma → Holds cols (First (Cost kind)) es (l ++ (b ∷ []))
+  to-cost : (kind : Kind) (k : ℕ) → Holds cols (Name kind k) es l → length (nameOf kind) ≤ k → b ≡ comma →
+      Holds cols (First (Cost kind)) es (l ++ (b ∷ []))
   unfolding Holds
   to-cost kind k h t e = (
     h .0,
@@ -141,7 +149,8 @@ module _ (cols : Columns) (es : List Entry) (l : List ℕ) (b : ℕ) where
       let d = digit-true b t in
       (h .0, h .1, omega (arith, d .0, d .1), more (fileText cols es) (crlf ++ upTo place) _ l b (ap (λ (z : List ℕ). crlf ++ (upTo place ++ z)) (decimal-digit b (d .0) (d .1))) (h .2))
 
-  to-digits : (place : Place) (v : ℕ) → Holds cols (Digits place v) es l → continues (10 ^ digitsMost) v b ≡ true → Holds cols (Digits place (v * 10 + (b - 48))) es (l ++ (b ∷ []))
+  to-digits : (place : Place) (v : ℕ) → Holds cols (Digits place v) es l → continues (10 ^ digitsMost) v b ≡ true →
+      Holds cols (Digits place (v * 10 + (b - 48))) es (l ++ (b ∷ []))
   unfolding Holds
   to-digits place v h t =
       let told = continues-true (10 ^ digitsMost) v b t in
@@ -153,9 +162,11 @@ module _ (cols : Columns) (es : List Entry) (l : List ℕ) (b : ℕ) where
       (h .0, h .1, short, more (fileText cols es) (crlf ++ (upTo place ++ decimal v)) _ l b row (h .3))
 
   -- The byte behind a number.
-  to-behind : (place : Place) (v : ℕ) → Holds cols (Digits place v) es l → b ≡ behind cols place → Holds cols (after cols place v) es (l ++ (b ∷ []))
+  to-behind : (place : Place) (v : ℕ) → Holds cols (Digits place v) es l → b ≡ behind cols place →
+      Holds cols (after cols place v) es (l ++ (b ∷ []))
   unfolding Holds
-  to-behind (Cost kind) v h e = (h .0, h .2, more (fileText cols es) (crlf ++ (upTo (Cost kind) ++ decimal v)) _ l b (simp (append-assoc, e)) (h .3))
+  to-behind (Cost kind) v h e =
+      (h .0, h .2, more (fileText cols es) (crlf ++ (upTo (Cost kind) ++ decimal v)) _ l b (simp (append-assoc, e)) (h .3))
   to-behind (Period kind c) v h e = to-behind-period cols es l b kind c v h e
   to-behind (Deadline kind c p) v h e =
       let ends = subst (λ (x : Columns). EndsRow x (Number v) kind) (sym (h .1 .2)) (h .2) in
@@ -165,7 +176,8 @@ module _ (cols : Columns) (es : List Entry) (l : List ℕ) (b : ℕ) where
       (h .0, (h .1 .0, h .1 .1, ends), more (fileText cols es) (crlf ++ (upTo (Deadline kind c p) ++ decimal v)) _ l b cr (h .3))
 
   -- No number at all.
-  to-empty : (kind : Kind) (c p : ℕ) → Holds cols (First (Deadline kind c p)) es l → b ≡ 13 → Holds cols (emptyLast kind c p) es (l ++ (b ∷ []))
+  to-empty : (kind : Kind) (c p : ℕ) → Holds cols (First (Deadline kind c p)) es l → b ≡ 13 →
+      Holds cols (emptyLast kind c p) es (l ++ (b ∷ []))
   unfolding Holds
   to-empty Task c p h e = tt
   to-empty Handler c p h e =
@@ -178,18 +190,21 @@ module _ (cols : Columns) (es : List Entry) (l : List ℕ) (b : ℕ) where
   to-emptied (Period kind c) h e = to-broken _ _ _
   to-emptied (Deadline kind c p) h e = to-empty kind c p h e
 
-  to-next-row : (kind : Kind) (c p : ℕ) (last : Last) → Holds cols (RowCr kind c p last) es l → b ≡ 10 → Holds cols Start (es ++ (entry kind c p last ∷ [])) (l ++ (b ∷ []))
+  to-next-row : (kind : Kind) (c p : ℕ) (last : Last) → Holds cols (RowCr kind c p last) es l → b ≡ 10 →
+      Holds cols Start (es ++ (entry kind c p last ∷ [])) (l ++ (b ∷ []))
   unfolding Holds
   to-next-row kind c p last h e = (
     lawful-next cols es (entry kind c p last) (h .0) (h .1),
-    ap (λ (z : List ℕ). z ++ crlf) (file-text-next cols es (entry kind c p last)) ∙ append-assoc (fileText cols es) (crlf ++ entryText (entry kind c p last)) crlf
+    ap (λ (z : List ℕ). z ++ crlf) (file-text-next cols es (entry kind c p last))
+        ∙ append-assoc (fileText cols es) (crlf ++ entryText (entry kind c p last)) crlf
         ∙ more (fileText cols es) (crlf ++ (entryText (entry kind c p last) ++ (13 ∷ []))) _ l b (line-end (entryText (entry kind c p last)) b e) (h .2),
   )
 
 -- ---- so every step keeps it
 
 -- What each way of a choice gives.
-chosen : (t : Bool) (x y : State) (cols : Columns) (es : List Entry) (l : List ℕ) → (t ≡ true → Holds cols x es l) → (t ≡ false → Holds cols y es l) → Holds cols (pick t x y) es l
+chosen : (t : Bool) (x y : State) (cols : Columns) (es : List Entry) (l : List ℕ) → (t ≡ true → Holds cols x es l) →
+    (t ≡ false → Holds cols y es l) → Holds cols (pick t x y) es l
 chosen true x y cols es l f g = f refl
 chosen false x y cols es l f g = g refl
 
@@ -198,13 +213,15 @@ undone : (t : Bool) (cols : Columns) (st : State) (es : List Entry) (l : List �
 undone true cols st es l h = rw append-nil h
 undone false cols st es l h = rw append-nil h
 
-pub step-keeps : (cols : Columns) (st : State) (es : List Entry) (l : List ℕ) (b : ℕ) → Holds cols st es l → Holds cols (afterByte cols st b) (es ++ added st b) (l ++ (b ∷ []))
+pub step-keeps : (cols : Columns) (st : State) (es : List Entry) (l : List ℕ) (b : ℕ) → Holds cols st es l →
+    Holds cols (afterByte cols st b) (es ++ added st b) (l ++ (b ∷ []))
 step-keeps cols Broken es l b h = to-broken _ _ _
 step-keeps cols (Head k) es l b h = undone (eqb b 10) _ _ _ _
     (chosen _ _ _ _ _ _
     (λ t. chosen _ _ _ _ _ _ (λ e. to-head cols es l b k h (ltb-true _ _ t) (eqb-true _ _ e)) (λ e. to-broken _ _ _))
     (λ t. chosen _ _ _ _ _ _ (λ e. to-head-cr cols es l b k h (ltb-false _ _ t) (eqb-true _ _ e)) (λ e. to-broken _ _ _)))
-step-keeps cols HeadCr es l b h = undone (eqb b 10) _ _ _ _ (chosen _ _ _ _ _ _ (λ e. to-start cols es l b h (eqb-true _ _ e)) (λ e. to-broken _ _ _))
+step-keeps cols HeadCr es l b h =
+    undone (eqb b 10) _ _ _ _ (chosen _ _ _ _ _ _ (λ e. to-start cols es l b h (eqb-true _ _ e)) (λ e. to-broken _ _ _))
 step-keeps cols Start es l b h = undone (eqb b 10) _ _ _ _
     (chosen _ _ _ _ _ _ (λ e. to-name cols es l b Task h (eqb-true _ _ e))
     (λ n. chosen _ _ _ _ _ _ (λ e. to-name cols es l b Handler h (eqb-true _ _ e)) (λ e. to-broken _ _ _)))
@@ -227,7 +244,8 @@ pub holds-first : (cols : Columns) → Holds cols (Head 0) [] []
 unfolding Holds
 holds-first cols = (refl, omega arith, refl)
 
-holds-from : (cols : Columns) (w : Reading) (l bs : List ℕ) → Holds cols (w .st) (w .rows) l → Holds cols (readFrom cols w bs .st) (readFrom cols w bs .rows) (l ++ bs)
+holds-from : (cols : Columns) (w : Reading) (l bs : List ℕ) → Holds cols (w .st) (w .rows) l →
+    Holds cols (readFrom cols w bs .st) (readFrom cols w bs .rows) (l ++ bs)
 holds-from cols w l [] h = rw append-nil h
 holds-from cols w l (b ∷ bs) h =
     rw append-assoc at (holds-from cols (next cols w b) (l ++ (b ∷ [])) bs (step-keeps cols (w .st) (w .rows) l b h))

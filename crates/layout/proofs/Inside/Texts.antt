@@ -55,7 +55,8 @@ module _ (cols : Columns) (place : Place) (fs : List Entry) where
       stays cols (First place) (Digits place d) fs (48 + d) (λ x. omega arith)
       (simp (ne-eqb (48 + d) 13 (λ x. omega arith), digit-is (48 + d) (omega arith) (omega arith), worth))
 
-  digit-then : (v d : ℕ) → 0 < v → v < 10 ^ digitsMost / 10 → d < 10 → next cols (at (Digits place v) fs) (48 + d) ≡ at (Digits place (v * 10 + d)) fs
+  digit-then : (v d : ℕ) → 0 < v → v < 10 ^ digitsMost / 10 → d < 10 →
+      next cols (at (Digits place v) fs) (48 + d) ≡ at (Digits place (v * 10 + d)) fs
   digit-then v d p q h =
       let worth : 48 + d - 48 ≡ d = omega arith in
       let goes = continues-is (10 ^ digitsMost) v (48 + d) (digit-is (48 + d) (omega arith) (omega arith)) p q in
@@ -80,7 +81,8 @@ module _ (cols : Columns) (place : Place) (fs : List Entry) where
   read-decimal n h = read-digits 19 n (omega arith) h
 
   -- And on.
-  read-number : (n : ℕ) (xs : List ℕ) → Short n → readFrom cols (at (First place) fs) (decimal n ++ xs) ≡ readFrom cols (at (Digits place n) fs) xs
+  read-number : (n : ℕ) (xs : List ℕ) → Short n →
+      readFrom cols (at (First place) fs) (decimal n ++ xs) ≡ readFrom cols (at (Digits place n) fs) xs
   read-number n xs h = read-append cols (at (First place) fs) (decimal n) xs ∙ ap (λ (w : Reading). readFrom cols w xs) (read-decimal n h)
 
 -- As far as the period.
@@ -100,18 +102,22 @@ read-last Three kind c p Empty fs h = absurd h
 read-last Three kind c p (Number d) fs h = absurd h
 read-last Four kind c p NoField fs h = absurd h
 read-last Four Task c p Empty fs h = absurd h
-read-last Four Handler c p Empty fs h = ap (λ (z : List Entry). at Start (z ++ (entry Handler c p Empty ∷ []))) (append-nil (fs ++ []) ∙ append-nil fs)
+read-last Four Handler c p Empty fs h =
+    ap (λ (z : List Entry). at Start (z ++ (entry Handler c p Empty ∷ []))) (append-nil (fs ++ []) ∙ append-nil fs)
 read-last Four kind c p (Number d) fs h =
     ap (λ (z : List Entry). readFrom Four (readFrom Four (at (First (Deadline kind c p)) z) (decimal d)) crlf) (append-nil fs)
     ∙ ap (λ (w : Reading). readFrom Four w crlf) (read-decimal Four (Deadline kind c p) fs d h)
     ∙ ap (λ (z : List Entry). at Start (z ++ (entry kind c p (Number d) ∷ []))) (append-nil fs)
 
-read-entry : (cols : Columns) (e : Entry) (fs : List Entry) → Lawful cols e → readFrom cols (readFrom cols (at Start fs) (entryText e)) crlf ≡ at Start (fs ++ (e ∷ []))
+read-entry : (cols : Columns) (e : Entry) (fs : List Entry) → Lawful cols e →
+    readFrom cols (readFrom cols (at Start fs) (entryText e)) crlf ≡ at Start (fs ++ (e ∷ []))
 read-entry cols (entry kind c p last) fs h =
-    ap (λ (w : Reading). readFrom cols w crlf) (read-front cols kind c p fs (lastText last) (h .0) (h .1)) ∙ read-last cols kind c p last fs (h .2)
+    ap (λ (w : Reading). readFrom cols w crlf) (read-front cols kind c p fs (lastText last) (h .0) (h .1))
+    ∙ read-last cols kind c p last fs (h .2)
 
 -- Where a line end leads to the next line with fs read, it does so behind more rows too.
-read-body : (cols : Columns) (es fs : List Entry) (w : Reading) → AllLawful cols es → readFrom cols w crlf ≡ at Start fs → readFrom cols (readFrom cols w (body es)) crlf ≡ at Start (fs ++ es)
+read-body : (cols : Columns) (es fs : List Entry) (w : Reading) → AllLawful cols es → readFrom cols w crlf ≡ at Start fs →
+    readFrom cols (readFrom cols w (body es)) crlf ≡ at Start (fs ++ es)
 read-body cols [] fs w s h = rw append-nil h
 read-body cols (e ∷ es) fs w s h =
     let row = readFrom cols (at Start fs) (entryText e) in

@@ -16,7 +16,8 @@ deadline-of-requires : tie.Need-deadline-of-requires
 deadline-of-requires c κs = search needs
 
 with-number-requires-3 : tie.Need-with-number-requires-3
-with-number-requires-3 c κs = rw (c .before .with-number2 .ensures, c .before .before .with-number .ensures) (omega (arith, c .before .before .before .before .before .before .before .pre))
+with-number-requires-3 c κs =
+    rw (c .before .with-number2 .ensures, c .before .before .with-number .ensures) (omega (arith, c .before .before .before .before .before .before .before .pre))
 
 enum-told-2 : tie.Need-enum-told-2
 enum-told-2 c = search needs
@@ -31,10 +32,12 @@ with-number-requires-5 : tie.Need-with-number-requires-5
 with-number-requires-5 c κs = rw (c .with-number4 .ensures) (omega (arith, c .before .before .before .before .before .before .before .pre))
 
 returns : tie.Need-returns
-returns c = rw (c .before .before .before .before .enum-told .given .1, c .with-number3 .ensures, c .before .deadline-of .ensures, c .before .before .with-number2 .ensures, c .before .before .before .with-number .ensures)
+returns c =
+    rw (c .before .before .before .before .enum-told .given .1, c .with-number3 .ensures, c .before .deadline-of .ensures, c .before .before .with-number2 .ensures, c .before .before .before .with-number .ensures)
 
 returns-2 : tie.Need-returns-2
-returns-2 c = rw (c .before .before .before .before .enum-told2 .given .1, c .with-number5 .ensures, c .before .with-number4 .ensures, c .before .before .before .is-number .ensures)
+returns-2 c =
+    rw (c .before .before .before .before .enum-told2 .given .1, c .with-number5 .ensures, c .before .with-number4 .ensures, c .before .before .before .is-number .ensures)
 
 pub push-spec : {M : Type 1} → statement M
 push-spec =

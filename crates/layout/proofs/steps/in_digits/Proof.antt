@@ -38,7 +38,8 @@ returns-2 c =
     )
 
 returns-3 : tie.Need-returns-3
-returns-3 c = simp (ne-eqb _ _ (rw (c .before .before .before .behind .ensures) at (c .before .before .if1 .left)), sym (c .before .continues .ensures) ∙ c .if2 .left)
+returns-3 c =
+    simp (ne-eqb _ _ (rw (c .before .before .before .behind .ensures) at (c .before .before .if1 .left)), sym (c .before .continues .ensures) ∙ c .if2 .left)
 
 pub in-digits-spec : {M : Type 1} → statement M
 in-digits-spec =

@@ -17,7 +17,8 @@ returns : tie.Need-returns
 returns c = λ _. simp (eq-eqb _ _ (c .before .if1 .taken), c .emptied .ensures)
 
 returns-2 : tie.Need-returns-2
-returns-2 c = λ _. simp (ne-eqb _ _ (c .before .before .before .if1 .left), sym (c .before .before .is-digit .ensures) ∙ c .before .if2 .taken, c .worth .ensures)
+returns-2 c =
+    λ _. simp (ne-eqb _ _ (c .before .before .before .if1 .left), sym (c .before .before .is-digit .ensures) ∙ c .before .if2 .taken, c .worth .ensures)
 
 returns-3 : tie.Need-returns-3
 returns-3 c = λ _. simp (ne-eqb _ _ (c .before .before .if1 .left), sym (c .before .is-digit .ensures) ∙ c .if2 .left)

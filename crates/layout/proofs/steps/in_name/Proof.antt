@@ -14,10 +14,12 @@ add-t10 : tie.Need-add-t10
 add-t10 c = search needs
 
 returns : tie.Need-returns
-returns c = λ _. simp (lt-ltb _ _ (rw (c .before .before .before .name-len .ensures) at (c .before .before .if1 .taken)), eq-eqb _ _ (c .if2 .taken ∙ c .before .letter .ensures))
+returns c =
+    λ _. simp (lt-ltb _ _ (rw (c .before .before .before .name-len .ensures) at (c .before .before .if1 .taken)), eq-eqb _ _ (c .if2 .taken ∙ c .before .letter .ensures))
 
 returns-2 : tie.Need-returns-2
-returns-2 c = λ _. simp (lt-ltb _ _ (rw (c .before .before .before .name-len .ensures) at (c .before .before .if1 .taken)), ne-eqb _ _ (rw (c .before .letter .ensures) at (c .if2 .left)))
+returns-2 c =
+    λ _. simp (lt-ltb _ _ (rw (c .before .before .before .name-len .ensures) at (c .before .before .if1 .taken)), ne-eqb _ _ (rw (c .before .letter .ensures) at (c .if2 .left)))
 
 returns-3 : tie.Need-returns-3
 returns-3 c = λ _. simp (le-ltb _ _ (rw (c .before .before .name-len .ensures) at (c .before .if1 .left)), eq-eqb _ _ (c .if3 .taken))
