@@ -10,19 +10,19 @@ use lib.Dec.{ltb}
 use lib.ListN.{length, take, length-append}
 use lib.Seq.{take-append-seam}
 use Rattle.demand.specs.Tests.{pick}
-use Rattle.text.specs.Ascii.{crlf}
-use Rattle.layout.specs.Inside.Building.{none, some, Reading, readFrom, readOver, rowsAtEnd, outcome}
 use Rattle.layout.specs.File.{fileMost, rowsMost, Entry, fileText, AllLawful, FileSays, OneTable}
+use Rattle.layout.specs.Inside.Building.{none, some, Reading, readFrom, readOver, rowsAtEnd, outcome}
 use Rattle.layout.specs.Inside.Steps.{isStart, columnsOf}
-use Rattle.layout.specs.declared.words.Columns.{Columns}
-use Rattle.layout.specs.declared.words.Columns.the-variants.{Three, Four}
 use Rattle.layout.specs.declared.steps.State.{State}
 use Rattle.layout.specs.declared.steps.State.the-variants.{Broken, Head, HeadCr, Start, Name, First, Digits, RowCr}
+use Rattle.layout.specs.declared.words.Columns.{Columns}
+use Rattle.layout.specs.declared.words.Columns.the-variants.{Three, Four}
+use Rattle.text.specs.Ascii.{crlf}
 use Rattle.layout.proofs.Inside.Builds.{read-append}
-use Rattle.text.proofs.Tests.{by}
 use Rattle.layout.proofs.Inside.Room.{headerLeast, lineLeast, file-text-least}
 use Rattle.layout.proofs.Inside.Standing.{Holds, holds}
 use Rattle.layout.proofs.Inside.Texts.{at, read-text}
+use Rattle.text.proofs.Tests.{by}
 
 -- ---- what is accepted is a text
 

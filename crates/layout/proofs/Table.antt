@@ -11,8 +11,8 @@ use Rattle.layout.specs.Inside.Building.{Outcome, none, some, outcome}
 use Rattle.layout.specs.Table.{listOf, flatMost, flatOf, tableOf, ReadSays, OneReading}
 use Rattle.layout.specs.declared.reader.Flat.{Flat}
 use Rattle.layout.specs.declared.reader.Table.{Table}
-use Rattle.layout.proofs.Inside.Builds.{tableFor}
 use Rattle.layout.proofs.File.{never, sound, complete, says-unique}
+use Rattle.layout.proofs.Inside.Builds.{tableFor}
 
 -- ---- the table built is the answer
 

@@ -20,14 +20,14 @@ use mathlib.Core.Logic.{_⊎_}
 use mathlib.Core.Path.{_≡_}
 use Prim.Native.Nat.{ℕ, _^_, _≤_, _<_}
 use lib.ListN.{length}
-use Rattle.text.specs.Ascii.{ascii, crlf}
-use Rattle.text.specs.Numbers.{comma, field}
-use Rattle.layout.specs.declared.words.Columns.{Columns}
-use Rattle.layout.specs.declared.words.Columns.the-variants.{Three, Four}
 use Rattle.demand.specs.declared.table.Kind.{Kind}
 use Rattle.demand.specs.declared.table.Kind.the-variants.{Task, Handler}
 use Rattle.layout.specs.declared.steps.Last.{Last}
 use Rattle.layout.specs.declared.steps.Last.the-variants.{NoField, Empty, Number}
+use Rattle.layout.specs.declared.words.Columns.{Columns}
+use Rattle.layout.specs.declared.words.Columns.the-variants.{Three, Four}
+use Rattle.text.specs.Ascii.{ascii, crlf}
+use Rattle.text.specs.Numbers.{comma, field}
 
 pub data Entry : Type 0 where
   entry : Kind → ℕ → ℕ → Last → Entry

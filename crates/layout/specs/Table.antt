@@ -15,13 +15,13 @@ use mathlib.Core.Logic.{_⊎_}
 use mathlib.Core.Path.{_≡_}
 use Prim.Native.Nat.{ℕ, _-_, _*_}
 use lib.ListN.{length, replicate}
-use Rattle.layout.specs.File.{Entry, entry, rowsMost, FileSays, SaysNothing}
 use Rattle.demand.specs.declared.table.Kind.{Kind}
 use Rattle.demand.specs.declared.table.Kind.the-variants.{Task, Handler}
-use Rattle.layout.specs.declared.steps.Last.{Last}
-use Rattle.layout.specs.declared.steps.Last.the-variants.{NoField, Empty, Number}
+use Rattle.layout.specs.File.{Entry, entry, rowsMost, FileSays, SaysNothing}
 use Rattle.layout.specs.declared.reader.Flat.{Flat}
 use Rattle.layout.specs.declared.reader.Table.{Table}
+use Rattle.layout.specs.declared.steps.Last.{Last}
+use Rattle.layout.specs.declared.steps.Last.the-variants.{NoField, Empty, Number}
 
 abbrev pub deadlineOf : ℕ → Last → ℕ
 deadlineOf p NoField = p

@@ -1,8 +1,8 @@
 // The file reader: bytes in, a table out, or the word that the file breaks the layout.
 ghost use mathlib.Core.Path.{_≡_};
 ghost use Prim.Native.Nat.{_<_};
-ghost use Rattle.layout.specs.Inside.Building.{Room, longer, pushed, fed, tableAtEnd};
 ghost use Rattle.layout.specs.File.{entry};
+ghost use Rattle.layout.specs.Inside.Building.{Room, longer, pushed, fed, tableAtEnd};
 ghost use Rattle.layout.specs.Inside.Steps.{columnsOf};
 ghost use Rattle.layout.specs.Table.{deadlineOf, isNumber, flatMost, bareTable, ReadSays};
 use crate::steps;

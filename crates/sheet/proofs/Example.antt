@@ -5,19 +5,19 @@ use mathlib.Core.Logic.{inl, inr}
 use mathlib.Core.Path.{_≡_, refl, _∙_}
 use native.Mathlib.Omega.{arith}
 use Prim.Native.Nat.{ℕ}
-use Rattle.sheet.specs.Example.{caseNine, caseNineFour, caseNineSheet, Prints, CaseNinePrints}
-use Rattle.layout.specs.File.{Entry, entry, FileSays}
-use Rattle.text.specs.Numbers.{decimal}
-use Rattle.sheet.specs.Printed.{lines, printed}
-use Rattle.text.specs.Text.{textOf}
-use Rattle.sheet.specs.Whole.{TableFigures, FileFigures, outputOf}
-use Rattle.layout.specs.declared.words.Columns.the-variants.{Three, Four}
 use Rattle.demand.specs.declared.table.Kind.the-variants.{Task, Handler}
+use Rattle.layout.specs.File.{Entry, entry, FileSays}
 use Rattle.layout.specs.declared.steps.Last.the-variants.{NoField, Empty, Number}
+use Rattle.layout.specs.declared.words.Columns.the-variants.{Three, Four}
+use Rattle.sheet.specs.Example.{caseNine, caseNineFour, caseNineSheet, Prints, CaseNinePrints}
+use Rattle.sheet.specs.Printed.{lines, printed}
+use Rattle.sheet.specs.Whole.{TableFigures, FileFigures, outputOf}
+use Rattle.text.specs.Numbers.{decimal}
+use Rattle.text.specs.Text.{textOf}
 use Rattle.verdict.specs.Cases.{cases, plain}
 use Rattle.verdict.specs.Promise.{Figures, noOf}
-use Rattle.verdict.proofs.Cases.{cases-hold}
 use Rattle.sheet.proofs.Whole.{sheet-unique}
+use Rattle.verdict.proofs.Cases.{cases-hold}
 
 -- ---- what the files say
 

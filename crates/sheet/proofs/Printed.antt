@@ -9,10 +9,10 @@ use Rattle.text.specs.Ascii.{crlf}
 use Rattle.text.specs.Numbers.{fieldsOf}
 use Rattle.text.specs.Text.{textMost, textOf, blankText, putsOf}
 use Rattle.text.specs.declared.Text.{Text}
-use Rattle.text.proofs.Numbers.{fields-most}
-use Rattle.text.proofs.Writes.{puts-append, puts-blank}
 use Rattle.verdict.specs.Promise.{Figures, Word, numbersOf}
 use Rattle.verdict.specs.Promise.Word.{fits, misses, refused}
+use Rattle.text.proofs.Numbers.{fields-most}
+use Rattle.text.proofs.Writes.{puts-append, puts-blank}
 
 word-most : (w : Word) → length (wordText w) ≤ 7
 word-most fits = omega arith

@@ -8,21 +8,21 @@ use Prim.Native.Nat.{ℕ}
 use borrow.Author.Tests.{eq-eqb, ne-eqb}
 use Rattle.demand.specs.Refusals.{tableRefusal}
 use Rattle.demand.specs.Tests.{pick}
+use Rattle.demand.specs.declared.table.Kind.the-variants.{Task, Handler}
 use Rattle.layout.specs.File.{Entry}
-use Rattle.sheet.specs.Printed.{printed}
 use Rattle.layout.specs.Table.{listOf, misplaced, ReadSays}
-use Rattle.text.specs.Text.{Fits}
+use Rattle.layout.specs.declared.reader.Table.{Table}
+use Rattle.sheet.specs.Printed.{printed}
 use Rattle.sheet.specs.Whole.{misplacedRefusal, TableFigures, FileFigures, outputOf, SheetSays, OneSheet}
 use Rattle.sheet.specs.declared.Output.{Output}
-use Rattle.demand.specs.declared.table.Kind.the-variants.{Task, Handler}
-use Rattle.layout.specs.declared.reader.Table.{Table}
+use Rattle.text.specs.Text.{Fits}
 use Rattle.verdict.specs.Promise.{Figures, figures, refusalOf, VerdictSays}
 use Rattle.verdict.specs.declared.Answer.{Answer}
 use Rattle.verdict.specs.declared.Answer.the-variants as answer
-use Rattle.verdict.proofs.Promise as verdict
 use Rattle.layout.proofs.File.{says-unique}
 use Rattle.layout.proofs.Table.{listed, flat-listed}
 use Rattle.text.proofs.Writes.{text-fits}
+use Rattle.verdict.proofs.Promise as verdict
 
 -- ---- the output meets the promise
 

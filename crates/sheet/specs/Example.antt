@@ -7,10 +7,10 @@
 use mathlib.Core.List.{List, _++_}
 use mathlib.Core.Path.{_≡_}
 use Prim.Native.Nat.{ℕ}
-use Rattle.text.specs.Ascii.{ascii, crlf}
-use Rattle.text.specs.Text.{textOf}
 use Rattle.sheet.specs.Whole.{SheetSays}
 use Rattle.sheet.specs.declared.Output.{Output}
+use Rattle.text.specs.Ascii.{ascii, crlf}
+use Rattle.text.specs.Text.{textOf}
 
 abbrev pub caseNine : List ℕ
 caseNine =

@@ -14,12 +14,12 @@ use Prim.Native.Nat.{ℕ}
 use lib.Dec.{eqb}
 use Rattle.demand.specs.Refusals.{tableRefusal}
 use Rattle.demand.specs.Tests.{pick}
-use Rattle.layout.specs.File.{Entry, FileSays, SaysNothing}
-use Rattle.sheet.specs.Printed.{printed}
-use Rattle.layout.specs.Table.{listOf, misplaced}
-use Rattle.text.specs.Text.{textOf}
-use Rattle.sheet.specs.declared.Output.{Output}
 use Rattle.demand.specs.declared.table.Kind.the-variants.{Task, Handler}
+use Rattle.layout.specs.File.{Entry, FileSays, SaysNothing}
+use Rattle.layout.specs.Table.{listOf, misplaced}
+use Rattle.sheet.specs.Printed.{printed}
+use Rattle.sheet.specs.declared.Output.{Output}
+use Rattle.text.specs.Text.{textOf}
 use Rattle.verdict.specs.Promise.{Figures, refusalOf, Says}
 
 -- 13: a handler has a deadline; it comes after 3

@@ -2,8 +2,8 @@
 pub mod lines;
 
 ghost use mathlib.Core.Path.{_≡_};
-ghost use Rattle.verdict.specs.Promise.{figures};
 ghost use Rattle.sheet.specs.Whole.{TableFigures, outputOf, SheetSays};
+ghost use Rattle.verdict.specs.Promise.{figures};
 use layout::reader;
 use text::Text;
 use verdict::Answer;

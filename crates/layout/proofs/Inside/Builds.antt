@@ -9,20 +9,20 @@ use borrow.Author.Tests.{lt-ltb, le-ltb}
 use lib.ListN.{length, set, take, getD, replicate, length-append, length-take}
 use lib.Seq.{set-at, take-suc, take-all}
 use Rattle.demand.specs.Tests.{pick}
-use Rattle.text.specs.Ascii.{crlf}
-use Rattle.layout.specs.Inside.Building.{Room, longer, longerBy, pushed, grown, fed, tableAtEnd, added, Reading, next, readFrom, readOver, Outcome, none, some, rowsAtEnd, outcome}
-use Rattle.layout.specs.File.{fileMost, rowsMost, Entry}
-use Rattle.layout.specs.Inside.Steps.{afterByte, isStart, columnsOf}
-use Rattle.layout.specs.Table.{entryNumbers, listOf, misplacedIn, misplaced, flatMost, flatOf, tableOf, brokenTable}
-use Rattle.layout.specs.declared.words.Columns.{Columns}
 use Rattle.demand.specs.declared.table.Kind.{Kind}
 use Rattle.demand.specs.declared.table.Kind.the-variants.{Task, Handler}
-use Rattle.layout.specs.declared.steps.State.{State}
-use Rattle.layout.specs.declared.steps.State.the-variants.{Head}
+use Rattle.layout.specs.File.{fileMost, rowsMost, Entry}
+use Rattle.layout.specs.Inside.Building.{Room, longer, longerBy, pushed, grown, fed, tableAtEnd, added, Reading, next, readFrom, readOver, Outcome, none, some, rowsAtEnd, outcome}
+use Rattle.layout.specs.Inside.Steps.{afterByte, isStart, columnsOf}
+use Rattle.layout.specs.Table.{entryNumbers, listOf, misplacedIn, misplaced, flatMost, flatOf, tableOf, brokenTable}
 use Rattle.layout.specs.declared.reader.Flat.{Flat}
 use Rattle.layout.specs.declared.reader.Table.{Table}
-use Rattle.text.proofs.Tests.{by}
+use Rattle.layout.specs.declared.steps.State.{State}
+use Rattle.layout.specs.declared.steps.State.the-variants.{Head}
+use Rattle.layout.specs.declared.words.Columns.{Columns}
+use Rattle.text.specs.Ascii.{crlf}
 use Rattle.layout.proofs.Inside.Room.{lists-most, read-most, room}
+use Rattle.text.proofs.Tests.{by}
 
 -- ---- one row more
 

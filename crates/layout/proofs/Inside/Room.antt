@@ -6,21 +6,21 @@ use Prim.Native.Nat.{ℕ, _+_, _-_, _*_, _<_, _≤_}
 use lib.Dec.{eqb}
 use lib.ListN.{length, length-append}
 use Rattle.demand.specs.Tests.{pick}
-use Rattle.text.specs.Ascii.{crlf}
-use Rattle.layout.specs.Inside.Building.{Reading, done, added, next, readFrom, readOver, Room}
-use Rattle.layout.specs.File.{rowsMost, Entry, entry, headerOf, nameOf, lastText, entryText, body, fileText}
-use Rattle.text.specs.Numbers.{field}
-use Rattle.layout.specs.Table.{entryNumbers, listOf, tableOf}
-use Rattle.layout.specs.declared.words.Columns.{Columns}
-use Rattle.layout.specs.declared.words.Columns.the-variants.{Three, Four}
 use Rattle.demand.specs.declared.table.Kind.{Kind}
 use Rattle.demand.specs.declared.table.Kind.the-variants.{Task, Handler}
+use Rattle.layout.specs.File.{rowsMost, Entry, entry, headerOf, nameOf, lastText, entryText, body, fileText}
+use Rattle.layout.specs.Inside.Building.{Reading, done, added, next, readFrom, readOver, Room}
+use Rattle.layout.specs.Table.{entryNumbers, listOf, tableOf}
 use Rattle.layout.specs.declared.steps.Last.{Last}
 use Rattle.layout.specs.declared.steps.State.{State}
 use Rattle.layout.specs.declared.steps.State.the-variants.{Broken, Head, HeadCr, Start, Name, First, Digits, RowCr}
+use Rattle.layout.specs.declared.words.Columns.{Columns}
+use Rattle.layout.specs.declared.words.Columns.the-variants.{Three, Four}
+use Rattle.text.specs.Ascii.{crlf}
+use Rattle.text.specs.Numbers.{field}
+use Rattle.layout.proofs.Inside.Standing.{Holds, step-keeps, holds-first}
 use Rattle.text.proofs.Numbers.{decimal-least}
 use Rattle.text.proofs.Tests.{by}
-use Rattle.layout.proofs.Inside.Standing.{Holds, step-keeps, holds-first}
 
 -- ---- the least bytes of a header, and of a row's line
 

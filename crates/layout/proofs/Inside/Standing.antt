@@ -11,21 +11,21 @@ use lib.Dec.{eqb}
 use lib.ListN.{length, getD, take}
 use lib.Seq.{take-suc, take-all}
 use Rattle.demand.specs.Tests.{pick}
-use Rattle.text.specs.Ascii.{crlf}
-use Rattle.layout.specs.Inside.Building.{Reading, added, next, readFrom, readOver}
-use Rattle.layout.specs.File.{Entry, entry, digitsMost, Short, headerOf, nameOf, entryText, fileText, EndsRow, Lawful, AllLawful}
-use Rattle.text.specs.Numbers.{isDigit, continues, decimal, comma, field}
-use Rattle.layout.specs.Inside.Steps.{upTo, behindPeriod, afterPeriod, behind, after, emptyLast, emptied, afterByte}
-use Rattle.layout.specs.declared.words.Columns.{Columns}
-use Rattle.layout.specs.declared.words.Columns.the-variants.{Three, Four}
 use Rattle.demand.specs.declared.table.Kind.{Kind}
 use Rattle.demand.specs.declared.table.Kind.the-variants.{Task, Handler}
+use Rattle.layout.specs.File.{Entry, entry, digitsMost, Short, headerOf, nameOf, entryText, fileText, EndsRow, Lawful, AllLawful}
+use Rattle.layout.specs.Inside.Building.{Reading, added, next, readFrom, readOver}
+use Rattle.layout.specs.Inside.Steps.{upTo, behindPeriod, afterPeriod, behind, after, emptyLast, emptied, afterByte}
 use Rattle.layout.specs.declared.steps.Last.{Last}
 use Rattle.layout.specs.declared.steps.Last.the-variants.{NoField, Empty, Number}
 use Rattle.layout.specs.declared.steps.Place.{Place}
 use Rattle.layout.specs.declared.steps.Place.the-variants.{Cost, Period, Deadline}
 use Rattle.layout.specs.declared.steps.State.{State}
 use Rattle.layout.specs.declared.steps.State.the-variants.{Broken, Head, HeadCr, Start, Name, First, Digits, RowCr}
+use Rattle.layout.specs.declared.words.Columns.{Columns}
+use Rattle.layout.specs.declared.words.Columns.the-variants.{Three, Four}
+use Rattle.text.specs.Ascii.{crlf}
+use Rattle.text.specs.Numbers.{isDigit, continues, decimal, comma, field}
 use Rattle.layout.proofs.Places.{file-text-append}
 use Rattle.text.proofs.Numbers.{digit-true, continues-true, continues-below, decimal-digit, decimal-digits}
 use Rattle.text.proofs.Tests.{by}

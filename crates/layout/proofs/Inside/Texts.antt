@@ -8,21 +8,21 @@ use Prim.Native.Nat.{ℕ, zero, suc, _+_, _-_, _*_, _/_, _%_, _^_, _<_}
 use lib.ListN.{length}
 use borrow.Author.Tests.{ne-eqb}
 use Rattle.demand.specs.Tests.{pick}
-use Rattle.text.specs.Ascii.{crlf}
-use Rattle.layout.specs.Inside.Building.{Reading, done, added, next, readFrom, readOver}
-use Rattle.layout.specs.File.{Entry, entry, digitsMost, Short, headerOf, nameOf, lastText, entryText, body, fileText, EndsRow, Lawful, AllLawful}
-use Rattle.text.specs.Numbers.{lastDigits, decimal, comma, field}
-use Rattle.layout.specs.Inside.Steps.{behind, afterByte}
-use Rattle.layout.specs.declared.words.Columns.{Columns}
-use Rattle.layout.specs.declared.words.Columns.the-variants.{Three, Four}
 use Rattle.demand.specs.declared.table.Kind.{Kind}
 use Rattle.demand.specs.declared.table.Kind.the-variants.{Task, Handler}
+use Rattle.layout.specs.File.{Entry, entry, digitsMost, Short, headerOf, nameOf, lastText, entryText, body, fileText, EndsRow, Lawful, AllLawful}
+use Rattle.layout.specs.Inside.Building.{Reading, done, added, next, readFrom, readOver}
+use Rattle.layout.specs.Inside.Steps.{behind, afterByte}
 use Rattle.layout.specs.declared.steps.Last.{Last}
 use Rattle.layout.specs.declared.steps.Last.the-variants.{NoField, Empty, Number}
 use Rattle.layout.specs.declared.steps.Place.{Place}
 use Rattle.layout.specs.declared.steps.Place.the-variants.{Cost, Period, Deadline}
 use Rattle.layout.specs.declared.steps.State.{State}
 use Rattle.layout.specs.declared.steps.State.the-variants.{Head, Start, First, Digits}
+use Rattle.layout.specs.declared.words.Columns.{Columns}
+use Rattle.layout.specs.declared.words.Columns.the-variants.{Three, Four}
+use Rattle.text.specs.Ascii.{crlf}
+use Rattle.text.specs.Numbers.{lastDigits, decimal, comma, field}
 use Rattle.layout.proofs.Inside.Builds.{read-append}
 use Rattle.text.proofs.Numbers.{few, many, digit-is, continues-is}
 use Rattle.text.proofs.Tests.{by-lt}

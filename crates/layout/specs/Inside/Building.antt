@@ -18,16 +18,16 @@ use Prim.Native.Nat.{ℕ, _+_, _≤_}
 use lib.Dec.{eqb, ltb}
 use lib.ListN.{length, set}
 use Rattle.demand.specs.Tests.{pick}
-use Rattle.text.specs.Ascii.{crlf}
+use Rattle.demand.specs.declared.table.Kind.the-variants.{Task, Handler}
 use Rattle.layout.specs.File.{Entry, entry, fileMost}
 use Rattle.layout.specs.Inside.Steps.{afterByte, isStart, columnsOf}
 use Rattle.layout.specs.Table.{entryNumbers, misplacedIn, flatMost, brokenTable}
-use Rattle.layout.specs.declared.words.Columns.{Columns}
-use Rattle.demand.specs.declared.table.Kind.the-variants.{Task, Handler}
-use Rattle.layout.specs.declared.steps.State.{State}
-use Rattle.layout.specs.declared.steps.State.the-variants.{Broken, Head, HeadCr, Start, Name, First, Digits, RowCr}
 use Rattle.layout.specs.declared.reader.Flat.{Flat}
 use Rattle.layout.specs.declared.reader.Table.{Table}
+use Rattle.layout.specs.declared.steps.State.{State}
+use Rattle.layout.specs.declared.steps.State.the-variants.{Broken, Head, HeadCr, Start, Name, First, Digits, RowCr}
+use Rattle.layout.specs.declared.words.Columns.{Columns}
+use Rattle.text.specs.Ascii.{crlf}
 
 abbrev pub Room : Table → Type 0
 Room t = t .tasks .len + t .handlers .len + 3 ≤ flatMost
