@@ -11,8 +11,8 @@ use lib.Dec.{T}
 use lib.IntN.{ℤ, pos, negsuc, natAbs, _-ℤ_}
 use lib.Signed.{ltZ, nonNeg, mag}
 use Prim.Native.Nat.{ℕ, suc, _+_, _^_, _<_}
-use Rattle.figures.proofs.distance.Statement.{statement}
-use Rattle.figures.proofs.distance.Tie as tie
+use Rattle.demand_cases.proofs.distance.Statement.{statement}
+use Rattle.demand_cases.proofs.distance.Tie as tie
 
 record Mirrored (z : ℤ) : Type 0 where
   far : ℕ

@@ -1,7 +1,7 @@
 use Prim.Native.Nat.{_-_, _≤_}
 use borrow.Author.Needs.{needs}
-use Rattle.verdicts.proofs.tasks_alike.Statement.{statement}
-use Rattle.verdicts.proofs.tasks_alike.Tie as tie
+use Rattle.verdict_cases.proofs.tasks_alike.Statement.{statement}
+use Rattle.verdict_cases.proofs.tasks_alike.Tie as tie
 
 abbrev Inv-loop : tie.InvT-loop
 Inv-loop cost period deadline rows₀ i₀ rows i = i ≤ 195

@@ -1,8 +1,8 @@
 use native.Mathlib.Omega.{arith}
 use Prim.Native.Nat.{_-_, _≤_}
 use borrow.Author.Needs.{needs}
-use Rattle.verdicts.proofs.judge.Statement.{statement}
-use Rattle.verdicts.proofs.judge.Tie as tie
+use Rattle.verdict_cases.proofs.judge.Statement.{statement}
+use Rattle.verdict_cases.proofs.judge.Tie as tie
 
 abbrev Inv-loop : tie.InvT-loop
 Inv-loop what tasks handlers numbers i₀ t6 t7 i = (1 ≤ i) × (i ≤ 6)
