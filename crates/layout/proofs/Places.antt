@@ -1,4 +1,5 @@
--- Where a row's cost stands in the text of a file: before it the rows before, a line end and the row's name; behind it the rest.
+-- Where the numbers of a row stand in the text of a file. Before a cost: the rows before, a line end and the row's name; behind it
+-- the rest.
 --   beforeCost cols es kind    == the text up to the cost of the row behind the rows es, which is of this kind
 --   behindCost p last fs       == the text behind that cost, of a row with this period and last field, and the rows fs
 use mathlib.Core.List.{List, [], _∷_, _++_, append-assoc}
@@ -8,7 +9,8 @@ use Rattle.demand.specs.declared.table.Kind.{Kind}
 use Rattle.layout.specs.File.{Entry, entry, headerOf, nameOf, lastText, entryText, body, fileText}
 use Rattle.layout.specs.Inside.Steps.{upTo}
 use Rattle.layout.specs.declared.steps.Last.{Last}
-use Rattle.layout.specs.declared.steps.Place.the-variants.{Cost}
+use Rattle.layout.specs.declared.steps.Last.the-variants.{Number}
+use Rattle.layout.specs.declared.steps.Place.the-variants.{Cost, Period, Deadline}
 use Rattle.layout.specs.declared.words.Columns.{Columns}
 use Rattle.text.specs.Ascii.{crlf}
 use Rattle.text.specs.Numbers.{decimal, comma, field}
@@ -26,6 +28,18 @@ body-append (e ∷ es) fs = simp (body-append es fs, append-assoc)
 pub file-text-append : (cols : Columns) (es fs : List Entry) → fileText cols (es ++ fs) ≡ fileText cols es ++ body fs
 file-text-append cols es fs =
     ap (λ (z : List ℕ). headerOf cols ++ z) (body-append es fs) ∙ sym (append-assoc (headerOf cols) (body es) (body fs))
+
+-- A row as far as its period, and as far as its deadline.
+pub up-to-period : (kind : Kind) (c v : ℕ) → upTo (Period kind c) ++ decimal v ≡ nameOf kind ++ (field c ++ field v)
+up-to-period kind c v =
+    append-assoc (nameOf kind) (field c ++ (comma ∷ [])) (decimal v)
+    ∙ ap (λ (z : List ℕ). nameOf kind ++ z) (append-assoc (field c) (comma ∷ []) (decimal v))
+
+pub up-to-deadline : (kind : Kind) (c p v : ℕ) → upTo (Deadline kind c p) ++ decimal v ≡ entryText (entry kind c p (Number v))
+up-to-deadline kind c p v =
+    append-assoc (nameOf kind) (field c ++ (field p ++ (comma ∷ []))) (decimal v)
+    ∙ ap (λ (z : List ℕ). nameOf kind ++ z) (append-assoc (field c) (field p ++ (comma ∷ [])) (decimal v))
+    ∙ ap (λ (z : List ℕ). nameOf kind ++ (field c ++ z)) (append-assoc (field p) (comma ∷ []) (decimal v))
 
 -- A row up to its cost, the cost, and the rest of the file.
 row-splits : (kind : Kind) (c p : ℕ) (last : Last) (fs : List Entry) →

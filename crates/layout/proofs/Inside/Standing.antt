@@ -26,7 +26,7 @@ use Rattle.layout.specs.declared.words.Columns.{Columns}
 use Rattle.layout.specs.declared.words.Columns.the-variants.{Three, Four}
 use Rattle.text.specs.Ascii.{crlf}
 use Rattle.text.specs.Numbers.{isDigit, continues, decimal, comma, field}
-use Rattle.layout.proofs.Places.{file-text-append}
+use Rattle.layout.proofs.Places.{file-text-append, up-to-period, up-to-deadline}
 use Rattle.text.proofs.Numbers.{digit-true, continues-true, continues-below, decimal-digit, decimal-digits}
 use Rattle.text.proofs.Tests.{by}
 
@@ -68,17 +68,6 @@ file-text-next cols es e =
 -- A row's line end, its CR and its LF.
 line-end : (x : List ℕ) (b : ℕ) → b ≡ 10 → (crlf ++ x) ++ crlf ≡ (crlf ++ (x ++ (13 ∷ []))) ++ (b ∷ [])
 line-end x b e = simp (append-assoc, e)
-
-up-to-period : (kind : Kind) (c v : ℕ) → upTo (Period kind c) ++ decimal v ≡ nameOf kind ++ (field c ++ field v)
-up-to-period kind c v =
-    append-assoc (nameOf kind) (field c ++ (comma ∷ [])) (decimal v)
-    ∙ ap (λ (z : List ℕ). nameOf kind ++ z) (append-assoc (field c) (comma ∷ []) (decimal v))
-
-up-to-deadline : (kind : Kind) (c p v : ℕ) → upTo (Deadline kind c p) ++ decimal v ≡ entryText (entry kind c p (Number v))
-up-to-deadline kind c p v =
-    append-assoc (nameOf kind) (field c ++ (field p ++ (comma ∷ []))) (decimal v)
-    ∙ ap (λ (z : List ℕ). nameOf kind ++ z) (append-assoc (field c) (field p ++ (comma ∷ [])) (decimal v))
-    ∙ ap (λ (z : List ℕ). nameOf kind ++ (field c ++ z)) (append-assoc (field p) (comma ∷ []) (decimal v))
 
 -- ---- each way that a step can go
 
