@@ -15,7 +15,7 @@ use Rattle.guarantees.specs.LegalArrivals.{Accepted}
 use Rattle.guarantees.specs.Synchronous.{beatOf, beatsTo, syncRun}
 use Rattle.guarantees.specs.LateExactly.{LateAt, LateExactly}
 use Rattle.machine.specs.Live.{dueOf, OnTime}
-use Rattle.machine.specs.Machine.{State, pick}
+use Rattle.machine.specs.Machine.{State, serveBy}
 use Rattle.scheduler.specs.Reached.{offeredBy}
 use Rattle.scheduler.specs.Scans.{at}
 use Rattle.machine.specs.Machine.{sync}
@@ -48,18 +48,18 @@ module _ (t h : List ℕ) (e : tableRefusal t h ≡ 0) where
     view = ap viewOf (sym (sync-next t h e n)) ∙ synced-next t h e n s soon going .view
 
     clock : sync (suc n) ts hs .clock ≡ suc n
-    clock = sync-clock (pick dueOf) ts hs (suc n)
+    clock = sync-clock (serveBy dueOf) ts hs (suc n)
 
     pub next-going : OnTime (suc n) (sync (suc n) ts hs .tasks) → syncRun t h (suc n) .over ≡ false
     next-going on =
         ap (λ (r : Run). r .over) (sync-next t h e n)
-        ∙ on-time-going dueOf (syncRun t h n) (beatOf t h n) (s .sound) a
+        ∙ on-time-going dueOf (syncRun t h n) (beatOf t h n) (s .well-made) a
         (subst (λ (v : State). OnTime (v .clock) (v .tasks)) (sym view) (subst (λ (c : ℕ). OnTime c (sync (suc n) ts hs .tasks)) (sym clock) on))
 
     pub next-over : ¬ OnTime (suc n) (sync (suc n) ts hs .tasks) → syncRun t h (suc n) .over ≡ true
     next-over late =
         ap (λ (r : Run). r .over) (sync-next t h e n)
-        ∙ late-over dueOf (syncRun t h n) (beatOf t h n) (s .sound) a
+        ∙ late-over dueOf (syncRun t h n) (beatOf t h n) (s .well-made) a
         (λ on. late (subst (λ (c : ℕ). OnTime c (sync (suc n) ts hs .tasks)) clock (subst (λ (v : State). OnTime (v .clock) (v .tasks)) view on)))
 
     -- The late row is that of the first task owed work at its deadline.
@@ -67,7 +67,7 @@ module _ (t h : List ℕ) (e : tableRefusal t h ≡ 0) where
     next-late =
         subst (λ (r : Run). r .late ≡ lateRow (suc n) (at (r .due)) (r .owed) (r .«task_count»)) (sym (sync-next t h e n))
         (subst (λ (c : ℕ). after .late ≡ lateRow c (at (after .due)) (after .owed) (after .«task_count»)) (ap (λ (v : State). v .clock) view ∙ clock)
-        (step-late dueOf (syncRun t h n) (beatOf t h n) (s .sound) a))
+        (step-late dueOf (syncRun t h n) (beatOf t h n) (s .well-made) a))
 
   -- The run at clock n: the machine's, and not over.
   record Going (n : ℕ) : Type 0 where

@@ -10,7 +10,7 @@ use lib.ListN.{length, getD}
 use Rattle.demand.specs.Limits.{ticksMost}
 use Rattle.guarantees.specs.LegalArrivals.{Accepted, LegalArrival, LegalArrivals}
 use Rattle.machine.specs.Live.{dueOf}
-use Rattle.scheduler.specs.Reached.{Sound}
+use Rattle.scheduler.specs.Reached.{WellMade}
 use Rattle.scheduler.specs.Runs.{rowIn, rowCount, Shaped}
 use Rattle.scheduler.specs.Steps.{early, heavy, stepBy}
 use Rattle.scheduler.specs.Tick.{tickedBy}
@@ -55,7 +55,7 @@ not-early clock next w timely = go (eqb w 0) refl
         let some : w ≡ 0 → ⊥ = eqb-false w 0 e in
         le-ltb clock next (timely (omega arith))
 
-module _ (r : Run) (ws : List ℕ) (s : Sound r) (going : r .over ≡ false) (soon : r .clock < ticksMost) where
+module _ (r : Run) (ws : List ℕ) (s : WellMade r) (going : r .over ≡ false) (soon : r .clock < ticksMost) where
   pub legal-accepted : length ws ≡ rowCount r → ((k : ℕ) → k < rowCount r → LegalArrival r k (getD ws k 0)) → Accepted r ws
   legal-accepted count each =
       sym

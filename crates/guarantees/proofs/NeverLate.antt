@@ -1,5 +1,5 @@
 -- After a yes no run from fresh is ever over, whatever is offered and however often it is refused.
---   Sure r   run r is sound, not over, and keeps the forward invariant at every length
+--   Sure r   run r is well made, not over, and keeps the forward invariant at every length
 use mathlib.Core.Bool.{false}
 use mathlib.Core.List.{List, [], _∷_}
 use mathlib.Core.Path.{_≡_, sym, ap, subst, _∙_}
@@ -14,13 +14,13 @@ use Rattle.verdict.proofs.Lightening.{says-fits}
 use Rattle.verdict.specs.Promise.{figures, SaysFits, VerdictSays, AlwaysPasses}
 use Rattle.guarantees.specs.NeverLate.{NeverLate}
 use Rattle.machine.specs.Live.{dueOf}
-use Rattle.scheduler.specs.Reached.{offeredBy, offered, Sound}
+use Rattle.scheduler.specs.Reached.{offeredBy, offered, WellMade}
 use Rattle.scheduler.specs.Start.{freshRun}
 use Rattle.scheduler.specs.Steps.{stepBy}
 use Rattle.guarantees.specs.View.{viewOf, offerOf}
 use Rattle.scheduler.specs.declared.Run.{Run}
 use Rattle.scheduler.proofs.Steps.Answers.{passed}
-use Rattle.guarantees.proofs.View.Fresh.{fresh-run, fresh-sound, fresh-going, fresh-view}
+use Rattle.guarantees.proofs.View.Fresh.{fresh-run, fresh-well-made, fresh-going, fresh-view}
 use Rattle.scheduler.proofs.Reached.{step-in-bounds}
 use Rattle.machine.proofs.Invariant.{Kept, fresh-kept, tick-kept, safe-on-time}
 use Rattle.guarantees.proofs.View.Steps.{Told, told, step-view, on-time-going}
@@ -29,7 +29,7 @@ use Rattle.guarantees.proofs.View.Arrives.{passed-tick}
 
 module _ (ts hs : List Row) (pt : Valid ts) (ph : Positive hs) (passes : (l : ℕ) → 1 ≤ l → Passes ts hs l) where
   pub record Sure (r : Run) : Type 0 where
-    pub sound : Sound r
+    pub well-made : WellMade r
     pub going : r .over ≡ false
     pub kept : (N : ℕ) → Kept N ts hs (viewOf r)
 
@@ -40,15 +40,15 @@ module _ (ts hs : List Row) (pt : Valid ts) (ph : Positive hs) (passes : (l : �
       go : Told dueOf r ws → Sure (stepBy dueOf r ws .run)
       go (unchanged e) = subst Sure (sym e) sure
       go (accepted a) =
-          let legal = passed-tick r ws (sure .sound) (passed r ws a) in
+          let legal = passed-tick r ws (sure .well-made) (passed r ws a) in
           let kept : (N : ℕ) → Kept N ts hs (viewOf (stepBy dueOf r ws .run)) =
           λ N.
-          subst (Kept N ts hs) (sym (step-view dueOf r ws (sure .sound) a))
+          subst (Kept N ts hs) (sym (step-view dueOf r ws (sure .well-made) a))
           (tick-kept N ts hs pt ph (λ l from below. passes l from) (offerOf r ws) (viewOf r) legal (sure .kept N)) in
           let N : ℕ = suc (stepBy dueOf r ws .run .clock) in
           record {
-            sound = step-in-bounds dueOf r ws (sure .sound);
-            going = on-time-going dueOf r ws (sure .sound) a (safe-on-time N (viewOf (stepBy dueOf r ws .run)) (omega arith) (kept N .safe));
+            well-made = step-in-bounds dueOf r ws (sure .well-made);
+            going = on-time-going dueOf r ws (sure .well-made) a (safe-on-time N (viewOf (stepBy dueOf r ws .run)) (omega arith) (kept N .safe));
             kept = kept;
           }
 
@@ -65,7 +65,7 @@ sure-fresh t h e passes =
     let ts : List Row = tasksOf t in
     let hs : List Row = handlersOf h in
     record {
-      sound = fresh-sound t h e;
+      well-made = fresh-well-made t h e;
       going = fresh-going t h e;
       kept = λ N. subst (Kept N ts hs) (sym (fresh-view t h e)) (fresh-kept N ts hs (tasks-valid t h e) (handlers-positive t h e) (λ l from below. passes l from));
     }

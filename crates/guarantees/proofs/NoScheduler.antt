@@ -13,12 +13,12 @@ use Rattle.verdict.specs.Promise.Word.{fits, misses, refused}
 use Rattle.verdict.specs.declared.Answer.{Answer}
 use Rattle.guarantees.specs.NoScheduler.{NoScheduler, OursIsOne, Met, Optimal}
 use Rattle.machine.specs.Live.{dueOf}
-use Rattle.machine.specs.Machine.{pick}
+use Rattle.machine.specs.Machine.{serveBy}
 use Rattle.machine.specs.Machine.{sync}
 use Rattle.machine.proofs.Least.{sync-timely, on-time-below}
 use Rattle.guarantees.proofs.Named.{named-valid, named-positive, named-shortest}
 use Rattle.machine.proofs.No.{fails-untimely}
-use Rattle.machine.proofs.Sync.{pick-ran}
+use Rattle.machine.proofs.Sync.{serve-by-ran}
 
 pub no-scheduler : NoScheduler
 no-scheduler t h r says word xs ys run =
@@ -28,7 +28,7 @@ pub ours-is-one : OursIsOne
 ours-is-one t h r says word n below =
     let ts : List Row = tasksOf t in
     let hs : List Row = handlersOf h in
-    sync-timely (pick dueOf) (pick-ran dueOf) ts hs n
+    sync-timely (serveBy dueOf) (serve-by-ran dueOf) ts hs n
     (λ m l.
     on-time-below ts hs (named-valid t h r says word) (named-positive t h r says word) (figures r .interval) (named-shortest t h r says word .least) m (omega arith))
 
@@ -54,6 +54,6 @@ fits-met t h r says word n =
       tasks = sync n ts hs .tasks;
       handlers = sync n ts hs .handlers;
       timely =
-          sync-timely (pick dueOf) (pick-ran dueOf) ts hs n
+          sync-timely (serveBy dueOf) (serve-by-ran dueOf) ts hs n
           (λ m l. on-time-below ts hs (tasks-valid t h e) (handlers-positive t h e) (suc m) (λ k from below. saying .passes k from) m (omega arith));
     }

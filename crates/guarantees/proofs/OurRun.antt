@@ -12,7 +12,7 @@ use Rattle.demand.specs.Rows.{Row, tasksOf, handlersOf}
 use Rattle.guarantees.specs.Synchronous.{beatOf, syncRun}
 use Rattle.guarantees.specs.OurRun.{Ours, OurRun}
 use Rattle.machine.specs.Live.{dueOf, idle, OnTime}
-use Rattle.machine.specs.Machine.{State, pick}
+use Rattle.machine.specs.Machine.{State, serveBy}
 use Rattle.machine.specs.Schedules.{Timely}
 use Rattle.machine.specs.Machine.{syncBy, sync}
 use Rattle.guarantees.specs.View.{viewOf}
@@ -21,7 +21,7 @@ use Rattle.scheduler.proofs.Reached.FreshBounds.{ready}
 use Rattle.machine.proofs.Invariant.{idle-before, on-time}
 use Rattle.guarantees.proofs.View.Steps.{going-on-time}
 use Rattle.machine.proofs.Least.{sync-clock, sync-timely}
-use Rattle.machine.proofs.Sync.{pick-ran}
+use Rattle.machine.proofs.Sync.{serve-by-ran}
 use Rattle.guarantees.proofs.Synchronous.{Synced, sync-next, synced-accepted, going-before, synced}
 
 module _ (t h : List ℕ) (e : tableRefusal t h ≡ 0) where
@@ -52,9 +52,9 @@ module _ (t h : List ℕ) (e : tableRefusal t h ≡ 0) where
         let a = synced-accepted t h e m s (omega arith) (going-so-far n going m (omega arith)) in
         let same = sync-next t h e m in
         let now : syncRun t h (suc m) .over ≡ false = going-so-far n going (suc m) within in
-        let on = going-on-time dueOf (syncRun t h m) (beatOf t h m) (s .sound) a (ap (λ (r : Run). r .over) (sym same) ∙ now) in
+        let on = going-on-time dueOf (syncRun t h m) (beatOf t h m) (s .well-made) a (ap (λ (r : Run). r .over) (sym same) ∙ now) in
         let run-on : OnTime (syncRun t h (suc m) .clock) (viewOf (syncRun t h (suc m)) .tasks) = subst (λ (r : Run). OnTime (r .clock) (viewOf r .tasks)) (sym same) on in
-        subst (λ (c : ℕ). OnTime c (sync (suc m) ts hs .tasks)) (sync-clock (pick dueOf) ts hs (suc m))
+        subst (λ (c : ℕ). OnTime c (sync (suc m) ts hs .tasks)) (sync-clock (serveBy dueOf) ts hs (suc m))
         (subst (λ (v : State). OnTime (v .clock) (v .tasks)) (synced-at (suc m) within .view) run-on)
 
     pub ours : Ours t h n
@@ -62,7 +62,7 @@ module _ (t h : List ℕ) (e : tableRefusal t h ≡ 0) where
         let view = synced-at n (omega arith) .view in
         record {
           view = view;
-          timely = subst (λ (v : State). Timely ts hs n (v .tasks) (v .handlers)) (sym view) (sync-timely (pick dueOf) (pick-ran dueOf) ts hs n machine-on-time);
+          timely = subst (λ (v : State). Timely ts hs n (v .tasks) (v .handlers)) (sym view) (sync-timely (serveBy dueOf) (serve-by-ran dueOf) ts hs n machine-on-time);
         }
 
 pub our-run : OurRun

@@ -6,7 +6,7 @@ use Prim.Native.Nat.{ℕ, _+_, _≤_, _<_}
 use lib.ListN.{getD}
 use Rattle.guarantees.specs.PeriodApart.{PeriodApart}
 use Rattle.machine.specs.Live.{dueOf}
-use Rattle.scheduler.specs.Reached.{offeredBy, offered, Sound}
+use Rattle.scheduler.specs.Reached.{offeredBy, offered, WellMade}
 use Rattle.scheduler.specs.Runs.{rowIn, rowCount}
 use Rattle.scheduler.specs.Steps.{stepOf}
 use Rattle.scheduler.specs.Tick.{tickedBy}
@@ -32,7 +32,7 @@ module _ (r : Run) (ws : List ℕ) where
       go (unchanged e) = ap (λ (x : Run). rowCount x) e
 
   -- A next legal tick stays, or an arrival that is not before it moves it on.
-  next-grows : Sound r → (k : ℕ) → k < rowCount r → getD (r .next) k 0 ≤ getD (stepOf r ws .run .next) k 0
+  next-grows : WellMade r → (k : ℕ) → k < rowCount r → getD (r .next) k 0 ≤ getD (stepOf r ws .run .next) k 0
   unfolding tickedBy
   next-grows s k l = go (told dueOf r ws)
     where
@@ -52,7 +52,7 @@ record Grown (r after : Run) (k : ℕ) : Type 0 where
   row : k < rowCount after
   next : getD (r .next) k 0 ≤ getD (after .next) k 0
 
-offered-grows : (offers : List (List ℕ)) (r : Run) (k : ℕ) → Sound r → k < rowCount r → Grown r (offered offers r) k
+offered-grows : (offers : List (List ℕ)) (r : Run) (k : ℕ) → WellMade r → k < rowCount r → Grown r (offered offers r) k
 unfolding offeredBy
 offered-grows [] r k s l = record { row = l; next = omega arith }
 offered-grows (ws ∷ offers) r k s l =
@@ -63,7 +63,7 @@ pub period-apart : PeriodApart
 period-apart r ws ws' offers k s l a some a' some' =
     let p : Passed r ws = passed r ws a in
     let next : Run = stepOf r ws .run in
-    let s' : Sound next = step-in-bounds dueOf r ws s in
+    let s' : WellMade next = step-in-bounds dueOf r ws s in
     let grown = offered-grows offers next k s' (omega (arith, count-stays r ws)) in
     let then = passed-legal (offered offers next) ws' (offered-in-bounds dueOf offers next s' .shaped) (passed (offered offers next) ws' a') k (grown .row) in
     let moved : getD (next .next) k 0 ≡ r .clock + rowIn r k .period = legal-arrivals r ws s (p .going) (p .soon) .apart a k l some in

@@ -1,5 +1,5 @@
 -- The synchronous run of a table, as `fresh` and `step` make it, is the machine's synchronous run for as long as it is not over.
---   Synced n   the run after n ticks of synchronous arrivals is sound, has the table's rows, and is seen as the machine's
+--   Synced n   the run after n ticks of synchronous arrivals is well made, has the table's rows, and is seen as the machine's
 use mathlib.Core.Bool.{false}
 use mathlib.Core.List.{List, [], _∷_, _++_}
 use mathlib.Core.Path.{_≡_, refl, sym, ap, ap₂, subst, _∙_}
@@ -14,24 +14,25 @@ use Rattle.demand.specs.Rows.{Row, tasksOf, handlersOf}
 use Rattle.guarantees.specs.LegalArrivals.{Accepted}
 use Rattle.guarantees.specs.Synchronous.{beatOf, beatsTo, syncRun}
 use Rattle.machine.specs.Live.{dueOf}
-use Rattle.machine.specs.Machine.{State, Arrivals, pick, tick, LegalTick}
-use Rattle.scheduler.specs.Reached.{offeredBy, offered, Sound}
+use Rattle.machine.specs.Machine.{State, Arrivals, serveBy, tick}
+use Rattle.scheduler.specs.Reached.{offeredBy, offered, WellMade}
 use Rattle.scheduler.specs.Runs.{rowCount, taskRows, handlerRows}
 use Rattle.machine.specs.Schedules.{beats}
 use Rattle.machine.specs.Machine.{beatsAt, syncBy, sync}
+use Rattle.machine.specs.Inside.Legal.{LegalTick}
 use Rattle.scheduler.specs.Start.{freshOf}
 use Rattle.scheduler.specs.Steps.{stepOf}
 use Rattle.guarantees.specs.View.{viewOf, offerOf}
 use Rattle.scheduler.specs.declared.Run.{Run}
 use Rattle.scheduler.proofs.Steps.Answers.{passed}
 use Rattle.machine.proofs.Beats.{beats-length}
-use Rattle.guarantees.proofs.View.Fresh.{fresh-run, fresh-sound, fresh-tasks, fresh-handlers, fresh-view}
+use Rattle.guarantees.proofs.View.Fresh.{fresh-run, fresh-well-made, fresh-tasks, fresh-handlers, fresh-view}
 use Rattle.scheduler.proofs.Reached.{step-in-bounds}
 use Rattle.guarantees.proofs.View.Steps.{Told, told, step-tasks, step-handlers, step-view}
 use Rattle.guarantees.proofs.View.Steps.Told.{accepted, unchanged}
 use Rattle.machine.proofs.Least.{sync-clock, sync-legal}
 use Rattle.guarantees.proofs.View.Parts.{front-of, back-of}
-use Rattle.machine.proofs.Sync.{pick-ran}
+use Rattle.machine.proofs.Sync.{serve-by-ran}
 use Rattle.guarantees.proofs.View.Rows.{task-rows, handler-rows}
 use Rattle.guarantees.proofs.View.Arrives.{tick-accepted}
 
@@ -54,7 +55,7 @@ module _ (t h : List ℕ) (e : tableRefusal t h ≡ 0) where
   sync-next n = offered-last (beatsTo t h n) (beatOf t h n) (freshOf t h .run)
 
   pub record Synced (n : ℕ) : Type 0 where
-    pub sound : Sound (syncRun t h n)
+    pub well-made : WellMade (syncRun t h n)
     pub tasks-are : taskRows (syncRun t h n) ≡ tasksOf t
     pub handlers-are : handlerRows (syncRun t h n) ≡ handlersOf h
     pub view : viewOf (syncRun t h n) ≡ sync n (tasksOf t) (handlersOf h)
@@ -65,7 +66,7 @@ module _ (t h : List ℕ) (e : tableRefusal t h ≡ 0) where
   synced-fresh =
       let same = fresh-run t h e in
       record {
-        sound = subst Sound (sym same) (fresh-sound t h e);
+        well-made = subst WellMade (sym same) (fresh-well-made t h e);
         tasks-are = ap taskRows same ∙ fresh-tasks t h e;
         handlers-are = ap handlerRows same ∙ fresh-handlers t h e;
         view = ap viewOf same ∙ fresh-view t h e;
@@ -76,14 +77,14 @@ module _ (t h : List ℕ) (e : tableRefusal t h ≡ 0) where
     run = syncRun t h n
 
     pub synced-clock : syncRun t h n .clock ≡ n
-    synced-clock = ap (λ (v : State). v .clock) (s .view) ∙ sync-clock (pick dueOf) ts hs n
+    synced-clock = ap (λ (v : State). v .clock) (s .view) ∙ sync-clock (serveBy dueOf) ts hs n
 
     -- The arrivals of tick n have a number for each row, ..
     task-count : length (beats n ts) ≡ run .«task_count»
-    task-count = beats-length n ts ∙ ap (λ (rs : List Row). length rs) (sym (s .tasks-are)) ∙ task-rows run (s .sound) .count
+    task-count = beats-length n ts ∙ ap (λ (rs : List Row). length rs) (sym (s .tasks-are)) ∙ task-rows run (s .well-made) .count
 
     handler-count : length (beats n hs) ≡ run .«handler_count»
-    handler-count = beats-length n hs ∙ ap (λ (rs : List Row). length rs) (sym (s .handlers-are)) ∙ handler-rows run (s .sound) .count
+    handler-count = beats-length n hs ∙ ap (λ (rs : List Row). length rs) (sym (s .handlers-are)) ∙ handler-rows run (s .well-made) .count
 
     count : length (beatOf t h n) ≡ rowCount run
     unfolding beatOf
@@ -102,10 +103,10 @@ module _ (t h : List ℕ) (e : tableRefusal t h ≡ 0) where
     legal =
         subst (λ (v : State). LegalTick (offerOf run (beatOf t h n)) v) (sym (s .view))
         (subst (λ (a : Arrivals). LegalTick a (sync n ts hs)) (sym offer)
-        (sync-legal (pick dueOf) (pick-ran dueOf) ts hs (valid-positive ts (tasks-valid t h e)) (handlers-positive t h e) n))
+        (sync-legal (serveBy dueOf) (serve-by-ran dueOf) ts hs (valid-positive ts (tasks-valid t h e)) (handlers-positive t h e) n))
 
     pub synced-accepted : n < ticksMost → syncRun t h n .over ≡ false → Accepted (syncRun t h n) (beatOf t h n)
-    synced-accepted soon going = tick-accepted run (beatOf t h n) (s .sound) going (omega (arith, synced-clock)) count legal
+    synced-accepted soon going = tick-accepted run (beatOf t h n) (s .well-made) going (omega (arith, synced-clock)) count legal
 
     -- The tick is the machine's.
     pub synced-next : n < ticksMost → syncRun t h n .over ≡ false → Synced (suc n)
@@ -114,10 +115,10 @@ module _ (t h : List ℕ) (e : tableRefusal t h ≡ 0) where
         let a = synced-accepted soon going in
         let same = sync-next n in
         record {
-          sound = subst Sound (sym same) (step-in-bounds dueOf run (beatOf t h n) (s .sound));
+          well-made = subst WellMade (sym same) (step-in-bounds dueOf run (beatOf t h n) (s .well-made));
           tasks-are = ap taskRows same ∙ step-tasks dueOf run (beatOf t h n) ∙ s .tasks-are;
           handlers-are = ap handlerRows same ∙ step-handlers dueOf run (beatOf t h n) ∙ s .handlers-are;
-          view = ap viewOf same ∙ step-view dueOf run (beatOf t h n) (s .sound) a ∙ ap₂ (λ (x : Arrivals) (v : State). tick x v) offer (s .view);
+          view = ap viewOf same ∙ step-view dueOf run (beatOf t h n) (s .well-made) a ∙ ap₂ (λ (x : Arrivals) (v : State). tick x v) offer (s .view);
         }
 
   -- Once over, always over.

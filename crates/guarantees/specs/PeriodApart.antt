@@ -3,7 +3,7 @@
 use mathlib.Core.List.{List}
 use Prim.Native.Nat.{ℕ, _+_, _≤_, _<_}
 use lib.ListN.{getD}
-use Rattle.scheduler.specs.Reached.{offered, Sound}
+use Rattle.scheduler.specs.Reached.{offered, WellMade}
 use Rattle.scheduler.specs.Runs.{rowIn, rowCount}
 use Rattle.scheduler.specs.Steps.{stepOf}
 use Rattle.scheduler.specs.declared.Run.{Run}
@@ -11,7 +11,7 @@ use Rattle.guarantees.specs.LegalArrivals.{Accepted}
 
 abbrev pub PeriodApart : Type 0
 PeriodApart =
-    (r : Run) (ws ws' : List ℕ) (offers : List (List ℕ)) (k : ℕ) → Sound r → k < rowCount r
+    (r : Run) (ws ws' : List ℕ) (offers : List (List ℕ)) (k : ℕ) → WellMade r → k < rowCount r
     → Accepted r ws → 0 < getD ws k 0
     → Accepted (offered offers (stepOf r ws .run)) ws' → 0 < getD ws' k 0
     → r .clock + rowIn r k .period ≤ offered offers (stepOf r ws .run) .clock

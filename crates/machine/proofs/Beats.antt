@@ -12,11 +12,12 @@ use lib.Dec.{eqb}
 use lib.ListN.{length}
 use Prim.Native.Nat.{ℕ, zero, suc, _+_, _-_, _%_, _≤_, _<_}
 use Rattle.demand.specs.Rows.{Row, Positive}
-use Rattle.demand.specs.Tests as test
+use Rattle.demand.specs.Tests.{pick}
 use Rattle.demand.proofs.Divide.{le-or-lt}
-use Rattle.machine.specs.Live.{Live, tableOf, idle, arrive, arriveAll, LegalAll}
+use Rattle.machine.specs.Live.{Live, idle, arrive, arriveAll}
 use Rattle.machine.specs.Machine.{share}
-use Rattle.machine.specs.Schedules.{beat, beats, Ran, ran-none, ran-here, ran-later, Gave}
+use Rattle.machine.specs.Schedules.{beat, beats, RanOne, ran-none, ran-here, ran-later, Gave}
+use Rattle.machine.specs.Inside.Legal.{tableOf, LegalAll}
 use Rattle.machine.proofs.FullArrivals.{full, arrived, full-none, full-some, full-legal}
 use Rattle.machine.proofs.Invariant.{arrive-table, idle-table}
 use Rattle.machine.proofs.Room.{share-in, share-out}
@@ -46,9 +47,9 @@ share-none zero = refl
 share-none (suc k) = refl
 
 -- .. and by the test of the clock.
-pick-none : (b : Bool) → test.pick {A = ℕ} b 0 0 ≡ 0
-pick-none true = refl
-pick-none false = refl
+serve-by-none : (b : Bool) → pick {A = ℕ} b 0 0 ≡ 0
+serve-by-none true = refl
+serve-by-none false = refl
 
 -- No multiple of p lies strictly between t and t + p where t is one.
 between : (t n p : ℕ) → t < n → n < t + p → n % p ≡ 0 → t % p ≡ 0 → ⊥
@@ -66,14 +67,14 @@ full-beat t x b = by-cost (x .row .cost) refl
     p : ℕ
     p = x .row .period
 
-    by-cost : (c : ℕ) → x .row .cost ≡ c → share (suc t - x .next) c ≡ test.pick (eqb (t % p) 0) c 0
-    by-cost zero e = share-none (suc t - x .next) ∙ sym (pick-none (eqb (t % p) 0))
+    by-cost : (c : ℕ) → x .row .cost ≡ c → share (suc t - x .next) c ≡ pick (eqb (t % p) 0) c 0
+    by-cost zero e = share-none (suc t - x .next) ∙ sym (serve-by-none (eqb (t % p) 0))
     by-cost (suc c) e = go (le-or-lt (x .next) t)
       where
         pos : 0 < x .row .cost
         pos = omega arith
 
-        go : (x .next ≤ t) ⊎ (t < x .next) → share (suc t - x .next) (suc c) ≡ test.pick (eqb (t % p) 0) (suc c) 0
+        go : (x .next ≤ t) ⊎ (t < x .next) → share (suc t - x .next) (suc c) ≡ pick (eqb (t % p) 0) (suc c) 0
         go (inl h) =
             let now : x .next ≡ t = omega (arith, b .from pos) in
             let divides : t % p ≡ 0 = rw now at (b .whole pos) in
@@ -114,7 +115,7 @@ beats-arrived t (x ∷ xs) p b =
     (row-beats t (share (suc t - x .next) (x .row .cost)) x (p .0) (b .0) refl, beats-arrived t xs (p .1) (b .1))
 
 -- Running moves no next arrival.
-pub ran-beats : {xs ys : List Live} (t : ℕ) → Ran xs ys → OnBeats t xs → OnBeats t ys
+pub ran-beats : {xs ys : List Live} (t : ℕ) → RanOne xs ys → OnBeats t xs → OnBeats t ys
 ran-beats t ran-none b = b
 ran-beats t (ran-here n e) b = (record { from = b .0 .from; near = b .0 .near; whole = b .0 .whole }, b .1)
 ran-beats t (ran-later r) b = (b .0, ran-beats t r (b .1))

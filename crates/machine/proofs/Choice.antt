@@ -8,7 +8,7 @@ use native.Mathlib.Omega.{arith}
 use Prim.Native.Nat.{ℕ, zero, suc, _+_, _-_, _≤_, _<_}
 use Rattle.demand.proofs.Divide.{le-or-lt}
 use Rattle.machine.specs.Live.{Live, owedAll, left}
-use Rattle.machine.specs.Machine.{share, beforeBy, serve, chosen, pick}
+use Rattle.machine.specs.Machine.{share, beforeBy, serve, chosen, serveBy}
 use Rattle.machine.proofs.Room.{share-in, share-out}
 
 abbrev pub Idle : List Live → Type 0
@@ -41,20 +41,20 @@ module _ (key : Live → ℕ) where
   some-before n (y ∷ xs) x ys o l = omega (arith, some-before n xs x ys o l)
 
   -- Nobody is owed work: nobody runs.
-  pub pick-idle : (xs : List Live) → Idle xs → pick key xs ≡ xs
-  unfolding pick
-  pick-idle [] h = refl
-  pick-idle (x ∷ xs) h = rw (h .0, pick-idle xs (h .1))
+  pub serve-by-idle : (xs : List Live) → Idle xs → serveBy key xs ≡ xs
+  unfolding serveBy
+  serve-by-idle [] h = refl
+  serve-by-idle (x ∷ xs) h = rw (h .0, serve-by-idle xs (h .1))
 
   -- The row that runs: above it none that is owed work has as small a key, below it none a smaller one.
-  pub pick-runs : (xs : List Live) (x : Live) (ys : List Live) (n : ℕ) → x .owed ≡ suc n → From (suc (key x)) xs → From (key x) ys
-      → pick key (xs ++ (x ∷ ys)) ≡ xs ++ (left n x ∷ ys)
-  unfolding pick
-  pick-runs [] x ys n e above below = rw (none-before (key x) ys below, e)
-  pick-runs (y ∷ xs) x ys n e above below = go (y .owed) (beforeBy key (key y) (xs ++ (x ∷ ys))) refl refl (pick-runs xs x ys n e (above .1) below)
+  pub serve-by-runs : (xs : List Live) (x : Live) (ys : List Live) (n : ℕ) → x .owed ≡ suc n → From (suc (key x)) xs → From (key x) ys
+      → serveBy key (xs ++ (x ∷ ys)) ≡ xs ++ (left n x ∷ ys)
+  unfolding serveBy
+  serve-by-runs [] x ys n e above below = rw (none-before (key x) ys below, e)
+  serve-by-runs (y ∷ xs) x ys n e above below = go (y .owed) (beforeBy key (key y) (xs ++ (x ∷ ys))) refl refl (serve-by-runs xs x ys n e (above .1) below)
     where
-      go : (o b : ℕ) → y .owed ≡ o → beforeBy key (key y) (xs ++ (x ∷ ys)) ≡ b → pick key (xs ++ (x ∷ ys)) ≡ xs ++ (left n x ∷ ys)
-          → chosen o b y (xs ++ (x ∷ ys)) (pick key (xs ++ (x ∷ ys))) ≡ y ∷ (xs ++ (left n x ∷ ys))
+      go : (o b : ℕ) → y .owed ≡ o → beforeBy key (key y) (xs ++ (x ∷ ys)) ≡ b → serveBy key (xs ++ (x ∷ ys)) ≡ xs ++ (left n x ∷ ys)
+          → chosen o b y (xs ++ (x ∷ ys)) (serveBy key (xs ++ (x ∷ ys))) ≡ y ∷ (xs ++ (left n x ∷ ys))
       go zero b f g rest = rw rest
       go (suc o) zero f g rest = absurd (omega (arith, some-before (key y) xs x ys (omega arith) (above .0 (omega arith))))
       go (suc o) (suc b) f g rest = rw rest

@@ -7,7 +7,7 @@ use native.Mathlib.Omega.{arith}
 use Prim.Native.Nat.{ℕ, zero, suc, _+_, _<_}
 use Rattle.demand.specs.Rows.{Row}
 use Rattle.machine.specs.Live.{Live, dueOf, idle, arriveAll, owedAll, OnTime}
-use Rattle.machine.specs.Machine.{State, beforeBy, before, serve, pick, tickBy}
+use Rattle.machine.specs.Machine.{State, beforeBy, before, serve, serveBy, tickBy}
 use Rattle.machine.specs.Schedules.{beats}
 use Rattle.machine.specs.Machine.{syncBy, sync}
 use Rattle.machine.proofs.Invariant.{on-time}
@@ -41,7 +41,7 @@ ticks-9 : owedFrom 1 10
     ∷ (2 ∷ 4 ∷ 0 ∷ [])
     ∷ (1 ∷ 4 ∷ 0 ∷ [])
     ∷ []
-unfolding owedFrom owedOf tasks handlers syncBy tickBy beats idle arriveAll owedAll beforeBy serve pick
+unfolding owedFrom owedOf tasks handlers syncBy tickBy beats idle arriveAll owedAll beforeBy serve serveBy
 ticks-9 = refl
 
 -- The work of tasks that is due by its clock and still owed, over the first n clocks.
@@ -61,7 +61,7 @@ none-overdue (suc n) e m h = go (eq-or-lt-of-le {n = m} {m = n} (omega arith)) (
 
 -- Over the first ten clocks, 0 to 9, there is none.
 overdue-9 : overdue 10 ≡ 0
-unfolding overdue tasks handlers syncBy tickBy beats idle arriveAll owedAll beforeBy serve pick
+unfolding overdue tasks handlers syncBy tickBy beats idle arriveAll owedAll beforeBy serve serveBy
 overdue-9 = refl
 
 -- On time up to clock 9.
@@ -82,7 +82,7 @@ state-10 : sync 10 tasks handlers
       tasks = task-0 ∷ record { row = record { cost = 4; period = 8; deadline = 8 }; next = 16; due = 16; owed = 4 } ∷ [];
       handlers = record { row = record { cost = 1; period = 4; deadline = 4 }; next = 12; due = 12; owed = 0 } ∷ [];
     }
-unfolding task-0 tasks handlers syncBy tickBy beats idle arriveAll owedAll beforeBy serve pick
+unfolding task-0 tasks handlers syncBy tickBy beats idle arriveAll owedAll beforeBy serve serveBy
 state-10 = refl
 
 -- So the run is late there.

@@ -6,8 +6,10 @@ use native.Mathlib.Omega.{arith}
 use lib.ListN.{length, getD}
 use Prim.Native.Nat.{ℕ, zero, suc, _+_, _≤_, _<_}
 use Rattle.demand.specs.Rows.{Row, rowAt}
-use Rattle.machine.specs.Live.{Live, arrive, Legal, arriveAll, LegalAll, OnTime}
-use Rattle.machine.specs.Places.{liveOf, Fits}
+use Rattle.machine.specs.Live.{Live, arrive, arriveAll, OnTime}
+use Rattle.machine.specs.Places.{liveOf}
+use Rattle.machine.specs.Inside.Legal.{Legal, LegalAll}
+use Rattle.machine.specs.Inside.Listed.{Listed}
 use Rattle.machine.proofs.Flat.{fits-rest}
 
 pub record Arrived (t w : ℕ) (r : Row) (n d o n' d' o' : ℕ) : Type 0 where
@@ -32,7 +34,7 @@ arrive-one t (suc w) r n d o n' d' o' a =
 
 -- So, place by place, of the lists after the arrivals.
 pub arrive-flat : (t : ℕ) (ws : List ℕ) (rs : List Row) (ns ds os ns' ds' os' : List ℕ)
-    → length ws ≡ length rs → Fits rs ns ds os → Fits rs ns' ds' os'
+    → length ws ≡ length rs → Listed rs ns ds os → Listed rs ns' ds' os'
     → ((j : ℕ) → j < length rs → Arrived t (getD ws j 0) (rowAt rs j) (getD ns j 0) (getD ds j 0) (getD os j 0) (getD ns' j 0) (getD ds' j 0) (getD os' j 0))
     → arriveAll t ws (liveOf rs ns ds os) ≡ liveOf rs ns' ds' os'
 unfolding arriveAll liveOf
@@ -71,7 +73,7 @@ legal-flat t (w ∷ ws) (r ∷ rs) (n ∷ ns) (d ∷ ds) (o ∷ os) h =
     (legal-one t w (record { row = r; next = n; due = d; owed = o }) (h 0 (omega arith)), legal-flat t ws rs ns ds os (λ j l p. h (suc j) (omega arith) p))
 
 -- On time: at no place is work owed at its deadline.
-pub on-time-flat : (t : ℕ) (rs : List Row) (ns ds os : List ℕ) → Fits rs ns ds os → OnTime t (liveOf rs ns ds os)
+pub on-time-flat : (t : ℕ) (rs : List Row) (ns ds os : List ℕ) → Listed rs ns ds os → OnTime t (liveOf rs ns ds os)
     → (j : ℕ) → j < length rs → getD ds j 0 ≡ t → getD os j 0 ≡ 0
 unfolding liveOf
 on-time-flat t [] ns ds os f on j l e = absurd (omega arith)

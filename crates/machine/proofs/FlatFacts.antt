@@ -6,8 +6,10 @@ use native.Mathlib.Omega.{arith}
 use Prim.Native.Nat.{ℕ, zero, suc, _≤_, _<_}
 use lib.ListN.{length, getD}
 use Rattle.demand.specs.Rows.{Row, rowAt}
-use Rattle.machine.specs.Live.{Live, idle, Legal, LegalAll, owedAll, OnTime}
-use Rattle.machine.specs.Places.{liveOf, Fits}
+use Rattle.machine.specs.Live.{Live, idle, owedAll, OnTime}
+use Rattle.machine.specs.Places.{liveOf}
+use Rattle.machine.specs.Inside.Legal.{Legal, LegalAll}
+use Rattle.machine.specs.Inside.Listed.{Listed}
 use Rattle.machine.proofs.Flat.{fits-rest}
 
 -- At no place is work owed at its deadline: on time.
@@ -25,7 +27,7 @@ one-legal t zero x legal some = absurd (not-suc-le-zero some)
 one-legal t (suc w) x legal some = legal
 
 -- So at each place, where all are legal.
-pub flat-legal : (t : ℕ) (ws : List ℕ) (rs : List Row) (ns ds os : List ℕ) → length ws ≡ length rs → Fits rs ns ds os → LegalAll t ws (liveOf rs ns ds os)
+pub flat-legal : (t : ℕ) (ws : List ℕ) (rs : List Row) (ns ds os : List ℕ) → length ws ≡ length rs → Listed rs ns ds os → LegalAll t ws (liveOf rs ns ds os)
     → (j : ℕ) → j < length rs → 0 < getD ws j 0 → (getD ns j 0 ≤ t) × (getD ws j 0 ≤ rowAt rs j .cost)
 unfolding liveOf
 flat-legal t ws [] ns ds os e f legal j l some = absurd (not-suc-le-zero l)
@@ -37,7 +39,7 @@ flat-legal t (w ∷ ws) (r ∷ rs) (n ∷ ns) (d ∷ ds) (o ∷ os) e f legal ze
 flat-legal t (w ∷ ws) (r ∷ rs) (n ∷ ns) (d ∷ ds) (o ∷ os) e f legal (suc j) l some = flat-legal t ws rs ns ds os (omega arith) (fits-rest f) (legal .1) j (omega arith) some
 
 -- What a place is owed is part of what is owed in all.
-pub flat-owed : (rs : List Row) (ns ds os : List ℕ) (j : ℕ) → Fits rs ns ds os → j < length rs → getD os j 0 ≤ owedAll (liveOf rs ns ds os)
+pub flat-owed : (rs : List Row) (ns ds os : List ℕ) (j : ℕ) → Listed rs ns ds os → j < length rs → getD os j 0 ≤ owedAll (liveOf rs ns ds os)
 unfolding liveOf owedAll
 flat-owed [] ns ds os j f l = absurd (not-suc-le-zero l)
 flat-owed (r ∷ rs) [] ds os j f l = absurd (omega (arith, f .nexts))
@@ -47,7 +49,7 @@ flat-owed (r ∷ rs) (n ∷ ns) (d ∷ ds) (o ∷ os) zero f l = omega arith
 flat-owed (r ∷ rs) (n ∷ ns) (d ∷ ds) (o ∷ os) (suc j) f l = omega (arith, flat-owed rs ns ds os j (fits-rest f) (omega arith))
 
 -- Nothing owed, no arrival and no deadline yet at any place: idle rows.
-pub flat-idle : (rs : List Row) (ns ds os : List ℕ) → Fits rs ns ds os → ((j : ℕ) → j < length rs → (getD ns j 0 ≡ 0) × (getD ds j 0 ≡ 0) × (getD os j 0 ≡ 0))
+pub flat-idle : (rs : List Row) (ns ds os : List ℕ) → Listed rs ns ds os → ((j : ℕ) → j < length rs → (getD ns j 0 ≡ 0) × (getD ds j 0 ≡ 0) × (getD os j 0 ≡ 0))
     → liveOf rs ns ds os ≡ idle rs
 unfolding liveOf idle
 flat-idle [] ns ds os f h = refl

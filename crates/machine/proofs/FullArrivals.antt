@@ -11,9 +11,10 @@ use Prim.Native.Nat.{ℕ, zero, suc, _+_, _-_, _≤_, _<_}
 use Rattle.demand.specs.Demands.{ceil}
 use Rattle.demand.specs.Rows.{Row, Positive, Sound, Valid}
 use Rattle.demand.proofs.Divide.{jobs, le-or-lt, jobs-arrive, jobs-none, ceil-mono, ceil-sub}
-use Rattle.machine.specs.Live.{Live, dueOf, tableOf, idle, arrive, Legal, arriveAll, LegalAll, OnTime}
+use Rattle.machine.specs.Live.{Live, dueOf, idle, arrive, arriveAll, OnTime}
 use Rattle.machine.specs.Machine.{share, beforeBy, before}
-use Rattle.machine.specs.Schedules.{Ran, ran-none, ran-here, ran-later}
+use Rattle.machine.specs.Schedules.{RanOne, ran-none, ran-here, ran-later}
+use Rattle.machine.specs.Inside.Legal.{tableOf, Legal, LegalAll}
 use Rattle.machine.proofs.Ordered.{Ordered}
 use Rattle.machine.proofs.Room.{future, callable, dueIn, calls, share-in, share-out}
 
@@ -81,7 +82,7 @@ settled-on-time t (x ∷ xs) s on = (λ h. go (le-or-lt (dueOf x) t) h, settled-
     go (inr l) h = on .0 (omega arith)
 
 -- Whoever runs is owed work, and so was not behind its deadline.
-pub ran-settled : {xs ys : List Live} (t : ℕ) → Ran xs ys → Settled t xs → Settled t ys
+pub ran-settled : {xs ys : List Live} (t : ℕ) → RanOne xs ys → Settled t xs → Settled t ys
 ran-settled t ran-none s = s
 ran-settled t (ran-here n e) s = (λ h. absurd (omega (arith, s .0 h)), s .1)
 ran-settled t (ran-later r) s = (s .0, ran-settled t r (s .1))

@@ -9,11 +9,12 @@ use Rattle.demand.specs.Demands.{called, taken, due, Passes}
 use Rattle.demand.specs.Rows.{Row, Positive, Valid}
 use Rattle.demand.proofs.Demands.{handled-taken, passes-zero}
 use Rattle.demand.proofs.Taken.{taken-mono, taken-shift, taken-shift-suc}
-use Rattle.machine.specs.Live.{Live, dueOf, tableOf, idle, arriveAll, LegalAll, owedAll, OnTime}
-use Rattle.machine.specs.Machine.{State, Arrivals, freshState, share, beforeBy, before, serve, edf, givenBy, tickBy, tick, LegalTick}
+use Rattle.machine.specs.Live.{Live, dueOf, idle, arriveAll, owedAll, OnTime}
+use Rattle.machine.specs.Machine.{State, Arrivals, freshState, share, beforeBy, before, serve, edf, givenBy, tickBy, tick}
+use Rattle.machine.specs.Inside.Legal.{tableOf, LegalAll, LegalTick}
 use Rattle.machine.proofs.Ordered.{Ordered, idle-ordered, arrive-ordered, ran-ordered}
 use Rattle.machine.proofs.Room.{Safe, future, callable, share-in, tasks-arrive, handlers-arrive, future-less, callable-less, future-le-due, callable-le-called, serve-callable, edf-before, ran-future}
-use Rattle.machine.proofs.Sync.{pick-ran, serve-ran, ran-table}
+use Rattle.machine.proofs.Sync.{serve-by-ran, serve-ran, ran-table}
 
 -- ---- the table stays, and the clock goes on
 
@@ -107,7 +108,7 @@ pub safe-edf : (N t : ℕ) (ts hs : List Live) → Valid (tableOf ts) → ((l : 
     → Safe N t ts hs → Safe N (suc t) (edf ts) hs
 safe-edf N t ts hs valid passes none safe k short =
     let e : suc t + k ≡ t + suc k = omega arith in
-    rw (e, ran-future (suc t) k (pick-ran dueOf ts)) (go (before (suc (t + suc k)) ts) refl)
+    rw (e, ran-future (suc t) k (serve-by-ran dueOf ts)) (go (before (suc (t + suc k)) ts) refl)
   where
     n : ℕ
     n = suc (t + suc k)
@@ -163,9 +164,9 @@ module _ (N : ℕ) (ts hs : List Row) (pt : Valid ts) (ph : Positive hs) (passes
   given-kept : (o t : ℕ) (xs ys : List Live) → tableOf xs ≡ ts → tableOf ys ≡ hs → owedAll ys ≡ o → Ordered xs → Safe N t xs ys → Kept N ts hs (givenBy edf o t xs ys)
   given-kept zero t xs ys ex ey eo ordered safe =
       record {
-        tasks-are = ran-table (pick-ran dueOf xs) ∙ ex;
+        tasks-are = ran-table (serve-by-ran dueOf xs) ∙ ex;
         handlers-are = ey;
-        ordered = ran-ordered (pick-ran dueOf xs) ordered;
+        ordered = ran-ordered (serve-by-ran dueOf xs) ordered;
         safe = safe-edf N t xs ys (rw ex pt) (rw (ex, ey) passes-all) eo safe;
       }
   given-kept (suc o) t xs ys ex ey eo ordered safe =

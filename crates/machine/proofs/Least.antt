@@ -8,16 +8,17 @@ use Prim.Native.Nat.{ℕ, zero, suc, _≤_, _<_}
 use Rattle.demand.specs.Demands.{Passes, Fails}
 use Rattle.demand.specs.Rows.{Row, Positive, Valid}
 use Rattle.demand.proofs.Sums.{valid-positive}
-use Rattle.machine.specs.Live.{Live, dueOf, arriveAll, owedAll, LegalAll, OnTime}
-use Rattle.machine.specs.Machine.{State, pick, tickBy, LegalTick}
-use Rattle.machine.specs.Schedules.{beats, Ran, Gave, Timely, start, onward}
+use Rattle.machine.specs.Live.{Live, dueOf, arriveAll, owedAll, OnTime}
+use Rattle.machine.specs.Machine.{State, serveBy, tickBy}
+use Rattle.machine.specs.Schedules.{beats, RanOne, Gave, Timely, start, onward}
 use Rattle.machine.specs.Machine.{beatsAt, syncBy, sync}
+use Rattle.machine.specs.Inside.Legal.{LegalAll, LegalTick}
 use Rattle.machine.proofs.Beats.{Beating, beating-fresh, beating-gave, beating-legal}
 use Rattle.machine.proofs.Invariant.{tick-clock, safe-on-time, Kept, fresh-kept, tick-kept}
 use Rattle.machine.proofs.No.{timely-passes}
-use Rattle.machine.proofs.Sync.{pick-ran, given-gave}
+use Rattle.machine.proofs.Sync.{serve-by-ran, given-gave}
 
--- ---- for any pick that only runs owed work
+-- ---- for any choice that only runs owed work
 
 -- After n ticks the clock is n.
 pub sync-clock : (choose : List Live → List Live) (ts hs : List Row) (n : ℕ) → syncBy choose n ts hs .clock ≡ n
@@ -25,7 +26,7 @@ unfolding syncBy
 sync-clock choose ts hs zero = refl
 sync-clock choose ts hs (suc n) = omega (arith, tick-clock choose (beatsAt n ts hs) (syncBy choose n ts hs), sync-clock choose ts hs n)
 
-module _ (choose : List Live → List Live) (ran : (xs : List Live) → Ran xs (choose xs)) (ts hs : List Row) where
+module _ (choose : List Live → List Live) (ran : (xs : List Live) → RanOne xs (choose xs)) (ts hs : List Row) where
   abbrev after : ℕ → State
   after n = syncBy choose n ts hs
 
@@ -64,14 +65,14 @@ module _ (choose : List Live → List Live) (ran : (xs : List Live) → Ran xs (
 module _ (ts hs : List Row) (pt : Valid ts) (ph : Positive hs) (L : ℕ) (passes : (l : ℕ) → 0 < l → l < L → Passes ts hs l) where
   -- The clock of the run by the earliest deadline.
   clock-is : (n : ℕ) → sync n ts hs .clock ≡ n
-  clock-is n = sync-clock (pick dueOf) ts hs n
+  clock-is n = sync-clock (serveBy dueOf) ts hs n
 
   -- The run keeps the forward invariant.
   sync-kept : (n : ℕ) → Kept L ts hs (sync n ts hs)
   unfolding syncBy
   sync-kept zero = fresh-kept L ts hs pt ph passes
   sync-kept (suc n) =
-      tick-kept L ts hs pt ph passes (beatsAt n ts hs) (sync n ts hs) (sync-legal (pick dueOf) (pick-ran dueOf) ts hs (valid-positive ts pt) ph n) (sync-kept n)
+      tick-kept L ts hs pt ph passes (beatsAt n ts hs) (sync n ts hs) (sync-legal (serveBy dueOf) (serve-by-ran dueOf) ts hs (valid-positive ts pt) ph n) (sync-kept n)
 
   -- On time at every clock below L.
   pub on-time-below : (n : ℕ) → n < L → OnTime n (sync n ts hs .tasks)
@@ -81,7 +82,7 @@ module _ (ts hs : List Row) (pt : Valid ts) (ph : Positive hs) (L : ℕ) (passes
 
   -- Late at L, where L fails: on time there, it would be a schedule that is on time up to L.
   pub late-at : Fails ts hs L → ¬ OnTime L (sync L ts hs .tasks)
-  late-at fails on = omega (arith, timely-passes ts hs pt ph (sync-timely (pick dueOf) (pick-ran dueOf) ts hs L (λ m h. so-far m (eq-or-lt-of-le h))))
+  late-at fails on = omega (arith, timely-passes ts hs pt ph (sync-timely (serveBy dueOf) (serve-by-ran dueOf) ts hs L (λ m h. so-far m (eq-or-lt-of-le h))))
     where
       so-far : (m : ℕ) → (m ≡ L) ⊎ (m < L) → OnTime m (sync m ts hs .tasks)
       so-far m (inl e) = subst (λ (n : ℕ). OnTime n (sync n ts hs .tasks)) (sym e) on

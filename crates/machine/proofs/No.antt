@@ -12,9 +12,10 @@ use Rattle.demand.proofs.Demands.{called-nil, called-cons, called-zero, due-nil
 use Rattle.demand.proofs.Divide.{jobs}
 use Rattle.demand.proofs.Sums.{valid-positive}
 use Rattle.demand.proofs.Taken.{taken-mono, taken-le, taken-drop, taken-wait}
-use Rattle.machine.specs.Live.{Live, dueOf, tableOf, idle, arriveAll, OnTime}
+use Rattle.machine.specs.Live.{Live, dueOf, idle, arriveAll, OnTime}
 use Rattle.machine.specs.Machine.{share, beforeBy, before}
-use Rattle.machine.specs.Schedules.{beats, Ran, ran-none, ran-here, ran-later, Gave, to-handlers, to-tasks, Timely, start, onward}
+use Rattle.machine.specs.Schedules.{beats, RanOne, ran-none, ran-here, ran-later, Gave, to-handlers, to-tasks, Timely, start, onward}
+use Rattle.machine.specs.Inside.Legal.{tableOf}
 use Rattle.machine.proofs.Beats.{OnBeats, beats-arrived, Beating, beating-fresh, beating-full, beating-gave}
 use Rattle.machine.proofs.FullArrivals.{full, arrived, Settled, settled-arrive, settled-on-time, ran-settled, idle-settled, settled-before, tasks-full, handlers-full}
 use Rattle.machine.proofs.Ordered.{Ordered, idle-ordered, arrive-ordered, ran-ordered}
@@ -51,7 +52,7 @@ callable-same t k (x ∷ xs) b = omega (arith, wait-same t k x (b .0 .from) (λ 
 -- ---- whoever runs, at most one unit goes
 
 -- Of what handlers are owed or can be called for.
-pub ran-callable : {xs ys : List Live} (t k : ℕ) → Ran xs ys → callable t xs k ≤ suc (callable t ys k)
+pub ran-callable : {xs ys : List Live} (t k : ℕ) → RanOne xs ys → callable t xs k ≤ suc (callable t ys k)
 unfolding callable
 ran-callable t k ran-none = omega arith
 ran-callable t k (ran-here n e) = omega arith
@@ -63,7 +64,7 @@ share-drop zero o n e = omega arith
 share-drop (suc k) o n e = omega arith
 
 -- Of what tasks have due before n.
-pub ran-before : {xs ys : List Live} (n : ℕ) → Ran xs ys → before n xs ≤ suc (before n ys)
+pub ran-before : {xs ys : List Live} (n : ℕ) → RanOne xs ys → before n xs ≤ suc (before n ys)
 unfolding beforeBy
 ran-before n ran-none = omega arith
 ran-before n (ran-here {x = x} m e) = omega (arith, share-drop (n - dueOf x) (x .owed) m e)

@@ -4,8 +4,9 @@ use mathlib.Core.List.{List, [], _∷_}
 use native.Mathlib.Omega.{arith}
 use Prim.Native.Nat.{ℕ, zero, suc, _≤_}
 use Rattle.demand.specs.Rows.{Row, Sound, Valid}
-use Rattle.machine.specs.Live.{Live, tableOf, idle, arrive, arriveAll}
-use Rattle.machine.specs.Schedules.{Ran, ran-none, ran-here, ran-later}
+use Rattle.machine.specs.Live.{Live, idle, arrive, arriveAll}
+use Rattle.machine.specs.Schedules.{RanOne, ran-none, ran-here, ran-later}
+use Rattle.machine.specs.Inside.Legal.{tableOf}
 
 abbrev pub Ordered : List Live → Type 0
 Ordered [] = Unit
@@ -29,7 +30,7 @@ arrive-ordered t (w ∷ ws) [] v o = tt
 arrive-ordered t (w ∷ ws) (x ∷ xs) v o = (row-ordered t w x (v .0) (o .0), arrive-ordered t ws xs (v .1) (o .1))
 
 -- Running moves neither.
-pub ran-ordered : {xs ys : List Live} → Ran xs ys → Ordered xs → Ordered ys
+pub ran-ordered : {xs ys : List Live} → RanOne xs ys → Ordered xs → Ordered ys
 ran-ordered ran-none o = o
 ran-ordered (ran-here n e) o = (o .0, o .1)
 ran-ordered (ran-later r) o = (o .0, ran-ordered r (o .1))

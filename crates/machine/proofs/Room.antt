@@ -13,9 +13,10 @@ use Rattle.demand.specs.Demands.{ceil, called, taken, due}
 use Rattle.demand.specs.Rows.{Positive, Sound, Valid}
 use Rattle.demand.proofs.Demands.{called-cons, due-cons}
 use Rattle.demand.proofs.Divide.{jobs, le-or-lt, jobs-mono, jobs-none, jobs-arrive, ceil-mono, ceil-arrive}
-use Rattle.machine.specs.Live.{Live, dueOf, tableOf, arrive, Legal, arriveAll, LegalAll, owedAll}
-use Rattle.machine.specs.Machine.{share, beforeBy, before, served, serve, chosen, pick, edf}
-use Rattle.machine.specs.Schedules.{Ran, ran-none, ran-here, ran-later}
+use Rattle.machine.specs.Live.{Live, dueOf, arrive, arriveAll, owedAll}
+use Rattle.machine.specs.Machine.{share, beforeBy, before, runsOr, serve, chosen, serveBy, edf}
+use Rattle.machine.specs.Schedules.{RanOne, ran-none, ran-here, ran-later}
+use Rattle.machine.specs.Inside.Legal.{tableOf, Legal, LegalAll}
 use Rattle.machine.proofs.Ordered.{Ordered}
 
 abbrev pub yetDue : ℕ → ℕ → Live → ℕ
@@ -182,13 +183,13 @@ serve-callable t k (x ∷ xs) some = go (x .owed) refl (λ h. serve-callable t k
     c = x .row .cost * ceil (k - (x .next - t)) (x .row .period)
 
     go : (o : ℕ) → x .owed ≡ o → (0 < owedAll xs → suc (callable t (serve xs) k) ≤ callable t xs k)
-        → suc (callable t (served o x xs (serve xs)) k) ≤ x .owed + c + callable t xs k
+        → suc (callable t (runsOr o x xs (serve xs)) k) ≤ x .owed + c + callable t xs k
     go zero e ih = omega (arith, ih (omega arith))
     go (suc o) e ih = omega arith
 
 -- A tick by the earliest deadline: one unit less due by every n by which any is due.
 pub edf-before : (n : ℕ) (ts : List Live) → before n (edf ts) ≤ before n ts - 1
-unfolding beforeBy pick
+unfolding beforeBy serveBy
 edf-before n [] = omega arith
 edf-before n (x ∷ xs) = go (x .owed) (before (dueOf x) xs) refl refl (le-or-lt n (dueOf x)) (edf-before n xs)
   where
@@ -207,7 +208,7 @@ edf-before n (x ∷ xs) = go (x .owed) (before (dueOf x) xs) refl refl (le-or-lt
         omega (arith, share-in n (dueOf x) (x .owed) l, before-mono xs {n = dueOf x} {n' = n} (omega arith))
 
 -- Whoever runs: what can yet be called for stays.
-pub ran-future : {xs ys : List Live} (t k : ℕ) → Ran xs ys → future t k ys ≡ future t k xs
+pub ran-future : {xs ys : List Live} (t k : ℕ) → RanOne xs ys → future t k ys ≡ future t k xs
 unfolding future
 ran-future t k ran-none = refl
 ran-future t k (ran-here n e) = refl

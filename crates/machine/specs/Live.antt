@@ -1,16 +1,14 @@
 -- Rows at work (01, "One tick of the scheduler"): what every schedule has to do with, ours and any other.
 --   Live                   == a row at work: its next legal arrival, the deadline of its last job and the work that it is owed
 --   dueOf x                == the deadline of the last job of task x
---   tableOf xs             == the rows of the table, of rows at work
 --   idle rs                == rows at work that are owed nothing and may arrive at once
 --   arrive t w x           == row x after an arrival of w at tick t; arriveAll for each row its own number
---   Legal t w x            an arrival of w at tick t is not too soon and not too much; LegalAll for each row its own number
 --   owedAll xs             == all work owed
 --   left n x               == row x with n left to do
 --   OnTime t ts            no task is owed work at its deadline t
 use mathlib.Core.List.{List, [], _∷_}
 use mathlib.Core.Path.{_≡_}
-use Prim.Native.Nat.{ℕ, zero, suc, _+_, _≤_}
+use Prim.Native.Nat.{ℕ, zero, suc, _+_}
 use Rattle.demand.specs.Rows.{Row}
 
 pub record Live : Type 0 where
@@ -22,10 +20,6 @@ pub record Live : Type 0 where
 abbrev pub dueOf : Live → ℕ
 dueOf x = x .due
 
-unfoldable pub tableOf : List Live → List Row
-tableOf [] = []
-tableOf (x ∷ xs) = x .row ∷ tableOf xs
-
 unfoldable pub idle : List Row → List Live
 idle [] = []
 idle (r ∷ rs) = record { row = r; next = 0; due = 0; owed = 0 } ∷ idle rs
@@ -36,20 +30,11 @@ abbrev pub arrive : ℕ → ℕ → Live → Live
 arrive t zero x = x
 arrive t (suc w) x = record { row = x .row; next = t + x .row .period; due = t + x .row .deadline; owed = x .owed + suc w }
 
-abbrev pub Legal : ℕ → ℕ → Live → Type 0
-Legal t zero x = Unit
-Legal t (suc w) x = (x .next ≤ t) × (suc w ≤ x .row .cost)
-
 -- Rows without a number have no arrival.
 unfoldable pub arriveAll : ℕ → List ℕ → List Live → List Live
 arriveAll t [] xs = xs
 arriveAll t (w ∷ ws) [] = []
 arriveAll t (w ∷ ws) (x ∷ xs) = arrive t w x ∷ arriveAll t ws xs
-
-abbrev pub LegalAll : ℕ → List ℕ → List Live → Type 0
-LegalAll t [] xs = Unit
-LegalAll t (w ∷ ws) [] = Unit
-LegalAll t (w ∷ ws) (x ∷ xs) = Legal t w x × LegalAll t ws xs
 
 -- ---- work owed
 

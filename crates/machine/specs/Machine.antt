@@ -2,12 +2,11 @@
 -- Handlers first, then the task with the smallest key, in 01 the deadline.
 --   State, Arrivals        == clock and rows at work; what one tick brings, a number for each row, 0 for no arrival
 --   freshState ts hs       == the state of a fresh run: clock 0, all rows idle
---   LegalTick a s          each arrival of a is legal in s
 --   share k o              == o, or nothing where k is 0
 --   before n xs            == work owed with a deadline before n; beforeBy key by any other number of a row
 --   serve xs               == the first row that is owed work has run for a tick
---   pick key xs            == the row with the smallest key of those owed work, the lowest of several, has run for a tick
---   edf xs                 == pick by the earliest deadline
+--   serveBy key xs         == the row with the smallest key of those owed work, the lowest of several, has run for a tick
+--   edf xs                 == the one with the earliest deadline
 --   tickBy choose a s      == the state after one tick with arrivals a: handlers first, then the task that is chosen
 --   tick a s               == that tick with the earliest deadline chosen
 --   beatsAt t ts hs        == the synchronous arrivals of a table at tick t
@@ -16,7 +15,7 @@
 use mathlib.Core.List.{List, [], _∷_}
 use Prim.Native.Nat.{ℕ, zero, suc, _+_, _-_}
 use Rattle.demand.specs.Rows.{Row}
-use Rattle.machine.specs.Live.{Live, dueOf, idle, arriveAll, LegalAll, owedAll, left}
+use Rattle.machine.specs.Live.{Live, dueOf, idle, arriveAll, owedAll, left}
 use Rattle.machine.specs.Schedules.{beats}
 
 pub record State : Type 0 where
@@ -30,9 +29,6 @@ pub record Arrivals : Type 0 where
 
 abbrev pub freshState : List Row → List Row → State
 freshState ts hs = record { clock = 0; tasks = idle ts; handlers = idle hs }
-
-abbrev pub LegalTick : Arrivals → State → Type 0
-LegalTick a s = LegalAll (s .clock) (a .toTasks) (s .tasks) × LegalAll (s .clock) (a .toHandlers) (s .handlers)
 
 -- ---- work owed before a tick
 
@@ -50,13 +46,13 @@ before n xs = beforeBy dueOf n xs
 -- ---- who gets the tick
 
 -- x is owed o: it runs, or ys is what a tick makes of the rows xs behind it.
-abbrev pub served : ℕ → Live → List Live → List Live → List Live
-served zero x xs ys = x ∷ ys
-served (suc n) x xs ys = left n x ∷ xs
+abbrev pub runsOr : ℕ → Live → List Live → List Live → List Live
+runsOr zero x xs ys = x ∷ ys
+runsOr (suc n) x xs ys = left n x ∷ xs
 
 unfoldable pub serve : List Live → List Live
 serve [] = []
-serve (x ∷ xs) = served (x .owed) x xs (serve xs)
+serve (x ∷ xs) = runsOr (x .owed) x xs (serve xs)
 
 -- x is owed o, and the rows xs behind it are owed b with a smaller key: it runs where o is not 0 and b is.
 abbrev pub chosen : ℕ → ℕ → Live → List Live → List Live → List Live
@@ -64,12 +60,12 @@ chosen zero b x xs ys = x ∷ ys
 chosen (suc n) zero x xs ys = left n x ∷ xs
 chosen (suc n) (suc b) x xs ys = x ∷ ys
 
-unfoldable pub pick : (Live → ℕ) → List Live → List Live
-pick key [] = []
-pick key (x ∷ xs) = chosen (x .owed) (beforeBy key (key x) xs) x xs (pick key xs)
+unfoldable pub serveBy : (Live → ℕ) → List Live → List Live
+serveBy key [] = []
+serveBy key (x ∷ xs) = chosen (x .owed) (beforeBy key (key x) xs) x xs (serveBy key xs)
 
 abbrev pub edf : List Live → List Live
-edf xs = pick dueOf xs
+edf xs = serveBy dueOf xs
 
 -- ---- the tick
 
@@ -97,4 +93,4 @@ syncBy choose zero ts hs = freshState ts hs
 syncBy choose (suc n) ts hs = tickBy choose (beatsAt n ts hs) (syncBy choose n ts hs)
 
 abbrev pub sync : ℕ → List Row → List Row → State
-sync n ts hs = syncBy (pick dueOf) n ts hs
+sync n ts hs = syncBy (serveBy dueOf) n ts hs

@@ -8,7 +8,7 @@ use lib.Seq.{length-take-le, getD-take}
 use Rattle.demand.specs.Rows.{tasksOf, handlersOf}
 use Rattle.scheduler.specs.Books.{sum, bringing, ticking, busy, broughtBy, busyBy, owedIn, Balance}
 use Rattle.machine.specs.Live.{Live}
-use Rattle.scheduler.specs.Reached.{offeredBy, Sound}
+use Rattle.scheduler.specs.Reached.{offeredBy, WellMade}
 use Rattle.scheduler.specs.Runs.{rowCount, Shaped, rowPlaces}
 use Rattle.scheduler.specs.Start.{zeros, freshOf, freshRun}
 use Rattle.scheduler.specs.Steps.{stepBy}
@@ -60,7 +60,7 @@ module _ (r : Run) (ws : List ℕ) (shaped : Shaped r) (p : Passed r ws) where
       let pays = paid-sum key-at owed n m (goesTo key-at owed n m) (omega (arith, few r ws shaped p, owed-length r ws shaped p)) (goes-to key-at owed n m) in
       omega (arith, pays, arrived-sum)
 
-step-balance : (key : Live → ℕ) (r : Run) (ws : List ℕ) → Sound r
+step-balance : (key : Live → ℕ) (r : Run) (ws : List ℕ) → WellMade r
     → bringing (stepBy key r ws .answer) ws + owedIn r ≡ busy (stepBy key r ws .answer) + owedIn (stepBy key r ws .run)
 step-balance key r ws s = go (outcome key r ws)
   where
@@ -68,7 +68,7 @@ step-balance key r ws s = go (outcome key r ws)
     go (stays k e) = rw e
     go (goes p e) = rw e (ticked-sum r ws (s .shaped) p key)
 
-pub offered-balance : (key : Live → ℕ) (offers : List (List ℕ)) (r : Run) → Sound r
+pub offered-balance : (key : Live → ℕ) (offers : List (List ℕ)) (r : Run) → WellMade r
     → broughtBy key offers r + owedIn r ≡ busyBy key offers r + owedIn (offeredBy key offers r)
 unfolding broughtBy busyBy offeredBy
 offered-balance key [] r s = refl

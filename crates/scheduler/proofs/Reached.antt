@@ -3,7 +3,7 @@ use mathlib.Core.List.{List, [], _∷_}
 use mathlib.Core.Path.{sym, subst}
 use Prim.Native.Nat.{ℕ}
 use Rattle.machine.specs.Live.{Live}
-use Rattle.scheduler.specs.Reached.{offeredBy, Sound, FreshInBounds, StepInBounds, AlwaysInBounds}
+use Rattle.scheduler.specs.Reached.{offeredBy, WellMade, FreshInBounds, StepInBounds, AlwaysInBounds}
 use Rattle.scheduler.specs.Start.{freshOf}
 use Rattle.scheduler.specs.Steps.{stepBy}
 use Rattle.scheduler.specs.Tick.{keyWith, goesTo, tickedBy}
@@ -21,11 +21,11 @@ pub mod KeepsBounds
 pub fresh-in-bounds : FreshInBounds
 fresh-in-bounds t h e =
     let none = ready t h e in
-    subst Sound (sym (ready-run t h e)) (record { in-bounds = fresh-bounds t h none; shaped = fresh-shape t h none })
+    subst WellMade (sym (ready-run t h e)) (record { in-bounds = fresh-bounds t h none; shaped = fresh-shape t h none })
 
-ticked-sound : (key : Live → ℕ) (r : Run) (ws : List ℕ) → Sound r → Passed r ws → Sound (tickedBy key r ws .run)
+ticked-well-made : (key : Live → ℕ) (r : Run) (ws : List ℕ) → WellMade r → Passed r ws → WellMade (tickedBy key r ws .run)
 unfolding tickedBy
-ticked-sound key r ws s p =
+ticked-well-made key r ws s p =
     let next = nextNow r ws (s .shaped) p in
     let due = dueNow r ws (s .shaped) p in
     let owed = owedNow r ws (s .shaped) p in
@@ -39,12 +39,12 @@ ticked-sound key r ws s p =
 pub step-in-bounds : StepInBounds
 step-in-bounds key r ws s = go (outcome key r ws)
   where
-    go : Outcome key r ws → Sound (stepBy key r ws .run)
-    go (stays k e) = subst (λ (x : Stepped). Sound (x .run)) (sym e) s
-    go (goes p e) = subst (λ (x : Stepped). Sound (x .run)) (sym e) (ticked-sound key r ws s p)
+    go : Outcome key r ws → WellMade (stepBy key r ws .run)
+    go (stays k e) = subst (λ (x : Stepped). WellMade (x .run)) (sym e) s
+    go (goes p e) = subst (λ (x : Stepped). WellMade (x .run)) (sym e) (ticked-well-made key r ws s p)
 
 -- So for any list of offers.
-pub offered-in-bounds : (key : Live → ℕ) (offers : List (List ℕ)) (r : Run) → Sound r → Sound (offeredBy key offers r)
+pub offered-in-bounds : (key : Live → ℕ) (offers : List (List ℕ)) (r : Run) → WellMade r → WellMade (offeredBy key offers r)
 unfolding offeredBy
 offered-in-bounds key [] r s = s
 offered-in-bounds key (ws ∷ offers) r s = offered-in-bounds key offers (stepBy key r ws .run) (step-in-bounds key r ws s)

@@ -23,17 +23,17 @@ abbrev pub offered : List (List ℕ) → Run → Run
 offered offers r = offeredBy dueOf offers r
 
 -- In bounds, with arrays of their lengths.
-pub record Sound (r : Run) : Type 0 where
+pub record WellMade (r : Run) : Type 0 where
   pub in-bounds : InBounds r
   pub shaped : Shaped r
 
 abbrev pub FreshInBounds : Type 0
-FreshInBounds = (t h : List ℕ) → freshOf t h .answer ≡ Ready → Sound (freshOf t h .run)
+FreshInBounds = (t h : List ℕ) → freshOf t h .answer ≡ Ready → WellMade (freshOf t h .run)
 
 abbrev pub StepInBounds : Type 0
-StepInBounds = (key : Live → ℕ) (r : Run) (ws : List ℕ) → Sound r → Sound (stepBy key r ws .run)
+StepInBounds = (key : Live → ℕ) (r : Run) (ws : List ℕ) → WellMade r → WellMade (stepBy key r ws .run)
 
 abbrev pub AlwaysInBounds : Type 0
 AlwaysInBounds =
     (key : Live → ℕ) (t h : List ℕ) → freshOf t h .answer ≡ Ready
-    → (offers : List (List ℕ)) → Sound (offeredBy key offers (freshOf t h .run))
+    → (offers : List (List ℕ)) → WellMade (offeredBy key offers (freshOf t h .run))

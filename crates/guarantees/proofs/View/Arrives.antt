@@ -11,10 +11,11 @@ use Rattle.demand.proofs.Divide.{le-or-lt}
 use Rattle.demand.specs.Limits.{tasksMost, ticksMost}
 use Rattle.demand.specs.Rows.{Row}
 use Rattle.guarantees.specs.LegalArrivals.{Accepted, LegalArrival}
-use Rattle.machine.specs.Live.{arriveAll, LegalAll}
-use Rattle.machine.specs.Machine.{LegalTick}
-use Rattle.machine.specs.Places.{liveOf, Fits}
-use Rattle.scheduler.specs.Reached.{Sound}
+use Rattle.machine.specs.Live.{arriveAll}
+use Rattle.machine.specs.Places.{liveOf}
+use Rattle.machine.specs.Inside.Legal.{LegalAll, LegalTick}
+use Rattle.machine.specs.Inside.Listed.{Listed}
+use Rattle.scheduler.specs.Reached.{WellMade}
 use Rattle.scheduler.specs.Runs.{rowIn, rowCount, taskRows, handlerRows, rowPlaces}
 use Rattle.scheduler.specs.Tick.{nextArrived}
 use Rattle.guarantees.specs.View.{part, seen, viewOf, offerOf}
@@ -26,19 +27,19 @@ use Rattle.scheduler.proofs.Reached.KeepsBounds.{nextNow, dueNow, due-moves, du
 use Rattle.guarantees.proofs.LegalArrivals.{passed-legal, passed-moves, passed-waits, legal-accepted}
 use Rattle.guarantees.proofs.View.Parts.{part-length, part-at}
 use Rattle.scheduler.proofs.Steps.Scan.{length-filled}
-use Rattle.guarantees.proofs.View.Rows.{Rows, rows-fit, sound-fits, task-rows, handler-rows, handler-deadline}
+use Rattle.guarantees.proofs.View.Rows.{Rows, rows-fit, well-made-fits, task-rows, handler-rows, handler-deadline}
 
 -- A deadline for each row: those of tasks, and the next arrivals of handlers.
-module _ (r : Run) (s : Sound r) where
+module _ (r : Run) (s : WellMade r) where
   pub tasks-due : length (part 0 (r .«task_count») (r .due)) ≡ r .«task_count»
-  tasks-due = part-length 0 (r .«task_count») (r .due) (omega (arith, sound-fits r s .tasks, s .shaped .due-long))
+  tasks-due = part-length 0 (r .«task_count») (r .due) (omega (arith, well-made-fits r s .tasks, s .shaped .due-long))
 
   pub handlers-due : length (part (r .«task_count») (r .«handler_count») (r .next)) ≡ r .«handler_count»
   handlers-due = part-length (r .«task_count») (r .«handler_count») (r .next) (omega (arith, handler-rows r s .within, s .shaped .next-long))
 
 -- ---- what is legal
 
-module _ (r : Run) (ws : List ℕ) (s : Sound r) (count : length ws ≡ rowCount r) where
+module _ (r : Run) (ws : List ℕ) (s : WellMade r) (count : length ws ≡ rowCount r) where
   abbrev LegalAt : ℕ → Type 0
   LegalAt k = LegalArrival r k (getD ws k 0)
 
@@ -57,7 +58,7 @@ module _ (r : Run) (ws : List ℕ) (s : Sound r) (count : length ws ≡ rowCount
       → LegalAll (r .clock) (part a n ws) (liveOf rs (part a n (r .next)) ds (part a n (r .owed))) → (j : ℕ) → j < n → LegalAt (a + j)
   legal-part a n rs ds w many inside legal j l = go (eq-zero-or-pos (getD ws (a + j) 0))
     where
-      fits : Fits rs (part a n (r .next)) ds (part a n (r .owed))
+      fits : Listed rs (part a n (r .next)) ds (part a n (r .owed))
       fits = rows-fit w (r .next) ds (r .owed) (s .shaped .next-long) many (s .shaped .owed-long)
 
       at-place : 0 < getD ws (a + j) 0 → (getD (r .next) (a + j) 0 ≤ r .clock) × (getD ws (a + j) 0 ≤ rowIn r (a + j) .cost)
@@ -87,16 +88,16 @@ module _ (r : Run) (ws : List ℕ) (s : Sound r) (count : length ws ≡ rowCount
       go (inr front) = rw (zero-add k) at (legal-part 0 (r .«task_count») (taskRows r) _ (task-rows r s) (tasks-due r s) (omega arith) (legal .0) k front)
 
 -- So an accepted step has legal arrivals, ..
-pub passed-tick : (r : Run) (ws : List ℕ) → Sound r → Passed r ws → LegalTick (offerOf r ws) (viewOf r)
+pub passed-tick : (r : Run) (ws : List ℕ) → WellMade r → Passed r ws → LegalTick (offerOf r ws) (viewOf r)
 passed-tick r ws s p = each-legal r ws s (p .count) (λ k l. passed-legal r ws (s .shaped) p k l)
 
 -- .. and legal arrivals are accepted.
-pub tick-accepted : (r : Run) (ws : List ℕ) → Sound r → r .over ≡ false → r .clock < ticksMost → length ws ≡ rowCount r → LegalTick (offerOf r ws) (viewOf r) → Accepted r ws
+pub tick-accepted : (r : Run) (ws : List ℕ) → WellMade r → r .over ≡ false → r .clock < ticksMost → length ws ≡ rowCount r → LegalTick (offerOf r ws) (viewOf r) → Accepted r ws
 tick-accepted r ws s going soon count legal = legal-accepted r ws s going soon count (legal-each r ws s count legal)
 
 -- ---- what they make of the state
 
-module _ (r : Run) (ws : List ℕ) (s : Sound r) (p : Passed r ws) where
+module _ (r : Run) (ws : List ℕ) (s : WellMade r) (p : Passed r ws) where
   pub next-length : length (nextNow r ws (s .shaped) p) ≡ rowPlaces
   unfolding nextArrived
   next-length = length-filled _ (rowCount r) (r .next) ∙ s .shaped .next-long
@@ -139,7 +140,7 @@ module _ (r : Run) (ws : List ℕ) (s : Sound r) (p : Passed r ws) where
       ≡ seen r (r .clock) (nextNow r ws (s .shaped) p) (dueNow r ws (s .shaped) p) (owedNow r ws (s .shaped) p) .tasks
   tasks-arrive =
       let n : ℕ = r .«task_count» in
-      let few : n ≤ tasksMost = sound-fits r s .tasks in
+      let few : n ≤ tasksMost = well-made-fits r s .tasks in
       part-arrives 0 n (taskRows r) (r .due) (dueNow r ws (s .shaped) p) (task-rows r s) (omega arith)
       (omega (arith, s .shaped .due-long))
       (omega (arith, due-length r ws (s .shaped) p))

@@ -1,4 +1,4 @@
--- A fresh run is sound, not over, and seen as the machine's fresh state.
+-- A fresh run is well made, not over, and seen as the machine's fresh state.
 use mathlib.Core.Bool.{false}
 use mathlib.Core.List.{List}
 use mathlib.Core.Path.{_≡_, refl, ap, _∙_}
@@ -12,7 +12,7 @@ use Rattle.demand.specs.Rows.{Row, tasksOf, handlersOf}
 use Rattle.machine.specs.Live.{idle}
 use Rattle.machine.specs.Machine.{freshState}
 use Rattle.machine.specs.Places.{liveOf}
-use Rattle.scheduler.specs.Reached.{Sound}
+use Rattle.scheduler.specs.Reached.{WellMade}
 use Rattle.scheduler.specs.Runs.{taskRows, handlerRows, taskNumbers, handlerNumbers, rowPlaces}
 use Rattle.scheduler.specs.Start.{padded, zeros, freshRun, freshOf}
 use Rattle.guarantees.specs.View.{part, viewOf}
@@ -22,14 +22,14 @@ use Rattle.machine.proofs.FlatFacts.{flat-idle}
 use Rattle.scheduler.proofs.Reached.FreshBounds.{zeros-at, zeros-length, fresh-bounds, fresh-shape}
 use Rattle.guarantees.proofs.View.Parts.{part-length, part-at}
 use Rattle.scheduler.proofs.Steps.Tables.{whole, fresh-ready}
-use Rattle.guarantees.proofs.View.Rows.{Rows, rows-fit, sound-fits, task-rows, handler-rows}
+use Rattle.guarantees.proofs.View.Rows.{Rows, rows-fit, well-made-fits, task-rows, handler-rows}
 
 module _ (t h : List ℕ) (e : tableRefusal t h ≡ 0) where
   pub fresh-run : freshOf t h .run ≡ freshRun t h
   fresh-run = ap (λ (x : Fresh). x .run) (fresh-ready t h e)
 
-  pub fresh-sound : Sound (freshRun t h)
-  fresh-sound = record { in-bounds = fresh-bounds t h e; shaped = fresh-shape t h e }
+  pub fresh-well-made : WellMade (freshRun t h)
+  fresh-well-made = record { in-bounds = fresh-bounds t h e; shaped = fresh-shape t h e }
 
   pub fresh-going : freshRun t h .over ≡ false
   unfolding freshRun
@@ -62,8 +62,8 @@ module _ (t h : List ℕ) (e : tableRefusal t h ≡ 0) where
   fresh-view =
       let r : Run = freshRun t h in
       let clock : r .clock ≡ 0 = unfold freshRun in refl in
-      let few : r .«task_count» ≤ tasksMost = sound-fits r fresh-sound .tasks in
-      let behind = handler-rows r fresh-sound in
-      let tasks = part-idle 0 (r .«task_count») tasksMost (taskRows r) (task-rows r fresh-sound) (omega arith) ∙ ap idle fresh-tasks in
+      let few : r .«task_count» ≤ tasksMost = well-made-fits r fresh-well-made .tasks in
+      let behind = handler-rows r fresh-well-made in
+      let tasks = part-idle 0 (r .«task_count») tasksMost (taskRows r) (task-rows r fresh-well-made) (omega arith) ∙ ap idle fresh-tasks in
       let handlers = part-idle (r .«task_count») (r .«handler_count») rowPlaces (handlerRows r) behind (behind .within) ∙ ap idle fresh-handlers in
       λ i. record { clock = clock i; tasks = tasks i; handlers = handlers i }

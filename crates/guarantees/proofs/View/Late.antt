@@ -8,8 +8,8 @@ use Prim.Native.Nat.{ℕ, _<_}
 use lib.Dec.{ltb, eqb}
 use lib.ListN.{getD}
 use Rattle.machine.specs.Live.{OnTime}
-use Rattle.machine.specs.Places.{Fits}
-use Rattle.scheduler.specs.Reached.{Sound}
+use Rattle.machine.specs.Inside.Listed.{Listed}
+use Rattle.scheduler.specs.Reached.{WellMade}
 use Rattle.scheduler.specs.Runs.{taskRows}
 use Rattle.scheduler.specs.Scans.{at}
 use Rattle.scheduler.specs.Tick.{isLate, lateRow, isTask}
@@ -46,11 +46,11 @@ named-late clock due owed n e = go (find (isLate clock due owed) n)
         let tests = both (ltb 0 (getD owed i 0)) (eqb (due i) clock) q in
         record { row = i; within = l; work = ltb-true _ _ (tests .0); now = eqb-true _ _ (tests .1) }
 
-module _ (r : Run) (s : Sound r) (t : ℕ) where
+module _ (r : Run) (s : WellMade r) (t : ℕ) where
   abbrev n : ℕ
   n = r .«task_count»
 
-  fits : Fits (taskRows r) (part 0 n (r .next)) (part 0 n (r .due)) (part 0 n (r .owed))
+  fits : Listed (taskRows r) (part 0 n (r .next)) (part 0 n (r .due)) (part 0 n (r .owed))
   fits = rows-fit (task-rows r s) (r .next) (part 0 n (r .due)) (r .owed) (s .shaped .next-long) (tasks-due r s) (s .shaped .owed-long)
 
   pub named-not-on-time : isTask (lateRow t (at (r .due)) (r .owed) n) ≡ true → ¬ OnTime t (viewOf r .tasks)

@@ -14,8 +14,8 @@ use Rattle.demand.proofs.Slices.{rows-count, handlers-plain}
 use Rattle.demand.specs.Rows.{Row, tasksOf, handlersOf, rowsOf, width, rowAt, noRow}
 use Rattle.demand.specs.declared.table.Kind.{Kind}
 use Rattle.demand.specs.declared.table.Kind.the-variants.{Task, Handler}
-use Rattle.machine.specs.Places.{Fits}
-use Rattle.scheduler.specs.Reached.{Sound}
+use Rattle.machine.specs.Inside.Listed.{Listed}
+use Rattle.scheduler.specs.Reached.{WellMade}
 use Rattle.scheduler.specs.Runs.{rowIn, taskRows, handlerRows, rowPlaces}
 use Rattle.scheduler.specs.Inside.Counted.{Fitting}
 use Rattle.guarantees.specs.View.{part}
@@ -37,15 +37,15 @@ taken-row : (kind : Kind) (s : List ℕ) (n i : ℕ) → i < n → rowAt (rowsOf
 taken-row kind s n i l = rw (rows-take kind s n) (getD-take n (rowsOf kind s) i noRow l)
 
 -- A run in bounds has places for its rows.
-pub sound-fits : (r : Run) → Sound r → Fitting (r .«task_count») (r .«handler_count»)
-sound-fits r s = clauses-fit r (clauses r (s .in-bounds))
+pub well-made-fits : (r : Run) → WellMade r → Fitting (r .«task_count») (r .«handler_count»)
+well-made-fits r s = clauses-fit r (clauses r (s .in-bounds))
 
-module _ (r : Run) (s : Sound r) where
+module _ (r : Run) (s : WellMade r) where
   pub task-rows : Rows r 0 (r .«task_count») (taskRows r)
   unfolding taskRows
   task-rows =
       let n : ℕ = r .«task_count» in
-      let few : n ≤ tasksMost = sound-fits r s .tasks in
+      let few : n ≤ tasksMost = well-made-fits r s .tasks in
       record {
         count = taken-count Task (r .tasks) n (omega (arith, s .shaped .tasks-long));
         within = omega arith;
@@ -57,7 +57,7 @@ module _ (r : Run) (s : Sound r) where
   handler-rows =
       let n : ℕ = r .«task_count» in
       let m : ℕ = r .«handler_count» in
-      let fit = sound-fits r s in
+      let fit = well-made-fits r s in
       record {
         count = taken-count Handler (r .handlers) m (omega (arith, s .shaped .handlers-long, fit .handlers));
         within = omega (arith, fit .tasks, fit .handlers);
@@ -71,12 +71,12 @@ module _ (r : Run) (s : Sound r) where
   handler-deadline i l =
       let n : ℕ = r .«task_count» in
       let behind : n + i - n ≡ i = omega arith in
-      let here : i < length (handlersOf (r .handlers)) = omega (arith, rows-count Handler (r .handlers), s .shaped .handlers-long, sound-fits r s .handlers) in
+      let here : i < length (handlersOf (r .handlers)) = omega (arith, rows-count Handler (r .handlers), s .shaped .handlers-long, well-made-fits r s .handlers) in
       rw (le-ltb (n + i) n (omega arith), behind) (each-at (λ (x : Row). x .deadline ≡ x .period) (handlersOf (r .handlers)) (handlers-plain (r .handlers)) i here)
 
 -- Parts of lists with a number for each place fit them, beside as many deadlines.
 pub rows-fit : {r : Run} {a n : ℕ} {rs : List Row} → Rows r a n rs → (ns ds os : List ℕ) → length ns ≡ rowPlaces → length ds ≡ n → length os ≡ rowPlaces
-    → Fits rs (part a n ns) ds (part a n os)
+    → Listed rs (part a n ns) ds (part a n os)
 rows-fit {r} {a} {n} {rs} w ns ds os ln ld lo = record {
   nexts = part-length a n ns (omega (arith, w .within)) ∙ sym (w .count);
   dues = ld ∙ sym (w .count);

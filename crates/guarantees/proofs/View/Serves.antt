@@ -9,22 +9,23 @@ use lib.ListN.{length, getD, set}
 use Rattle.demand.specs.Limits.{tasksMost}
 use Rattle.demand.specs.Rows.{rowAt}
 use Rattle.machine.specs.Live.{Live, owedAll}
-use Rattle.machine.specs.Machine.{State, serve, pick, givenBy}
-use Rattle.machine.specs.Places.{liveOf, liveAt, Fits}
-use Rattle.scheduler.specs.Reached.{Sound}
+use Rattle.machine.specs.Machine.{State, serve, serveBy, givenBy}
+use Rattle.machine.specs.Places.{liveOf}
+use Rattle.machine.specs.Inside.Listed.{liveAt, Listed}
+use Rattle.scheduler.specs.Reached.{WellMade}
 use Rattle.scheduler.specs.Runs.{rowIn, taskRows, handlerRows, rowPlaces}
 use Rattle.scheduler.specs.Tick.{ToHandler, ToTask, ToNobody, GoesTo, less, paid, keyWith}
 use Rattle.guarantees.specs.View.{part, seen}
 use Rattle.scheduler.specs.declared.Ran.{Ran}
 use Rattle.scheduler.specs.declared.Ran.the-variants.{Handler, Task, Idle}
 use Rattle.scheduler.specs.declared.Run.{Run}
-use Rattle.machine.proofs.Choice.{pick-idle, idle-owes-none}
-use Rattle.machine.proofs.Flat.{pick-flat, serve-flat, idle-flat}
+use Rattle.machine.proofs.Choice.{serve-by-idle, idle-owes-none}
+use Rattle.machine.proofs.Flat.{serve-by-flat, serve-flat, idle-flat}
 use Rattle.machine.proofs.FlatFacts.{flat-owed}
 use Rattle.guarantees.proofs.View.Parts.{part-length, part-at, part-set, part-after, front-at, front-set, front-before}
-use Rattle.guarantees.proofs.View.Rows.{rows-fit, sound-fits, task-rows, handler-rows}
+use Rattle.guarantees.proofs.View.Rows.{rows-fit, well-made-fits, task-rows, handler-rows}
 
-module _ (key : Live → ℕ) (r : Run) (s : Sound r) (next due owed : List ℕ) (next-long : length next ≡ rowPlaces) (due-long : length due ≡ tasksMost) (owed-long : length owed ≡ rowPlaces) where
+module _ (key : Live → ℕ) (r : Run) (s : WellMade r) (next due owed : List ℕ) (next-long : length next ≡ rowPlaces) (due-long : length due ≡ tasksMost) (owed-long : length owed ≡ rowPlaces) where
   abbrev n : ℕ
   n = r .«task_count»
 
@@ -34,10 +35,10 @@ module _ (key : Live → ℕ) (r : Run) (s : Sound r) (next due owed : List ℕ)
   abbrev now : State
   now = seen r (r .clock) next due owed
 
-  fit-tasks : Fits (taskRows r) (part 0 n next) (part 0 n due) (part 0 n owed)
-  fit-tasks = rows-fit (task-rows r s) next (part 0 n due) owed next-long (part-length 0 n due (omega (arith, due-long, sound-fits r s .tasks))) owed-long
+  fit-tasks : Listed (taskRows r) (part 0 n next) (part 0 n due) (part 0 n owed)
+  fit-tasks = rows-fit (task-rows r s) next (part 0 n due) owed next-long (part-length 0 n due (omega (arith, due-long, well-made-fits r s .tasks))) owed-long
 
-  fit-handlers : Fits (handlerRows r) (part n m next) (part n m next) (part n m owed)
+  fit-handlers : Listed (handlerRows r) (part n m next) (part n m next) (part n m owed)
   fit-handlers = rows-fit (handler-rows r s) next (part n m next) owed next-long (part-length n m next (omega (arith, next-long, handler-rows r s .within))) owed-long
 
   -- The key of a task is that of the row at work at its place.
@@ -48,13 +49,13 @@ module _ (key : Live → ℕ) (r : Run) (s : Sound r) (next due owed : List ℕ)
 
   -- What the tick makes of the state, where it goes to ran.
   abbrev pub After : Ran → Type 0
-  After ran = seen r (r .clock + 1) next due (paid owed n ran) ≡ givenBy (pick key) (owedAll (now .handlers)) (r .clock) (now .tasks) (now .handlers)
+  After ran = seen r (r .clock + 1) next due (paid owed n ran) ≡ givenBy (serveBy key) (owedAll (now .handlers)) (r .clock) (now .tasks) (now .handlers)
 
   to-handler : (i : ℕ) → ToHandler owed n m i → After (Handler i)
   to-handler i g = go (owedAll (now .handlers)) refl (getD owed (n + i) 0) refl
     where
       go : (o : ℕ) → owedAll (now .handlers) ≡ o → (x : ℕ) → getD owed (n + i) 0 ≡ x
-          → seen r (r .clock + 1) next due (less owed (n + i)) ≡ givenBy (pick key) o (r .clock) (now .tasks) (now .handlers)
+          → seen r (r .clock + 1) next due (less owed (n + i)) ≡ givenBy (serveBy key) o (r .clock) (now .tasks) (now .handlers)
       go zero none x e =
           absurd (omega (arith, g .work, part-at n m owed i (g .row), flat-owed (handlerRows r) (part n m next) (part n m next) (part n m owed) i fit-handlers (omega (arith, g .row, handler-rows r s .count))))
       go (suc o) some zero e = absurd (omega (arith, g .work))
@@ -105,14 +106,14 @@ module _ (key : Live → ℕ) (r : Run) (s : Sound r) (next due owed : List ℕ)
           let least : keyWith key r next due owed i ≤ keyWith key r next due owed j = g .earliest j below (owing j below some) in
           omega (arith, task-key i (g .row), task-key j below)
 
-      go : (x : ℕ) → getD owed i 0 ≡ x → seen r (r .clock + 1) next due (less owed i) ≡ givenBy (pick key) 0 (r .clock) (now .tasks) (now .handlers)
+      go : (x : ℕ) → getD owed i 0 ≡ x → seen r (r .clock + 1) next due (less owed i) ≡ givenBy (serveBy key) 0 (r .clock) (now .tasks) (now .handlers)
       go zero e = absurd (omega (arith, g .work))
       go (suc x) e =
           let left : getD owed i 0 - 1 ≡ x = omega arith in
           let tasks : part 0 n (less owed i) ≡ set (part 0 n owed) i x = rw left (front-set n owed i x (g .row)) in
           let handlers : part n m (less owed i) ≡ part n m owed = part-after n m owed i (getD owed i 0 - 1) (g .row) in
-          let picked : pick key (now .tasks) ≡ liveOf (taskRows r) (part 0 n next) (part 0 n due) (set (part 0 n owed) i x) =
-          pick-flat key (taskRows r) (part 0 n next) (part 0 n due) (part 0 n owed) i x fit-tasks
+          let picked : serveBy key (now .tasks) ≡ liveOf (taskRows r) (part 0 n next) (part 0 n due) (set (part 0 n owed) i x) =
+          serve-by-flat key (taskRows r) (part 0 n next) (part 0 n due) (part 0 n owed) i x fit-tasks
           (omega (arith, g .row, task-rows r s .count, fit-tasks .owes))
           (front-at n owed i (g .row) ∙ e)
           above
@@ -126,8 +127,8 @@ module _ (key : Live → ℕ) (r : Run) (s : Sound r) (next due owed : List ℕ)
   to-nobody : ToNobody owed n m → After Idle
   to-nobody g =
       rw (none-owed (g .no-handler))
-      (let picked : pick key (now .tasks) ≡ now .tasks =
-      pick-idle key (now .tasks)
+      (let picked : serveBy key (now .tasks) ≡ now .tasks =
+      serve-by-idle key (now .tasks)
       (idle-flat (taskRows r) (part 0 n next) (part 0 n due) (part 0 n owed)
       (λ j l.
       let below : j < n = omega (arith, fit-tasks .owes, task-rows r s .count) in

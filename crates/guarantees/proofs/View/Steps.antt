@@ -9,8 +9,8 @@ use native.Mathlib.Omega.{arith}
 use Prim.Native.Nat.{ℕ, _<_}
 use Rattle.guarantees.specs.LegalArrivals.{Accepted}
 use Rattle.machine.specs.Live.{Live, owedAll, OnTime}
-use Rattle.machine.specs.Machine.{pick, givenBy, tickBy}
-use Rattle.scheduler.specs.Reached.{Sound}
+use Rattle.machine.specs.Machine.{serveBy, givenBy, tickBy}
+use Rattle.scheduler.specs.Reached.{WellMade}
 use Rattle.scheduler.specs.Runs.{taskRows, handlerRows}
 use Rattle.scheduler.specs.Scans.{at}
 use Rattle.scheduler.specs.Steps.{stepRefusal, stepBy}
@@ -41,7 +41,7 @@ told key r ws = go (eq-zero-or-pos (stepRefusal r ws))
 
 module _ (key : Live → ℕ) (r : Run) (ws : List ℕ) where
   -- The tick, seen.
-  ticked-view : Sound r → Passed r ws → viewOf (tickedBy key r ws .run) ≡ tickBy (pick key) (offerOf r ws) (viewOf r)
+  ticked-view : WellMade r → Passed r ws → viewOf (tickedBy key r ws .run) ≡ tickBy (serveBy key) (offerOf r ws) (viewOf r)
   unfolding tickedBy tickBy taskRows handlerRows
   ticked-view s p =
       let next = nextNow r ws (s .shaped) p in
@@ -50,7 +50,7 @@ module _ (key : Live → ℕ) (r : Run) (ws : List ℕ) where
       let key-at : ℕ → ℕ = keyWith key r next due owed in
       let ran : Ran = goesTo key-at owed (r .«task_count») (r .«handler_count») in
       goes-view key r s next due owed (next-length r ws s p) (due-length r ws (s .shaped) p) (owed-length r ws (s .shaped) p) ran (goes-to key-at owed (r .«task_count») (r .«handler_count»))
-      ∙ ap₂ (λ (ts hs : List Live). givenBy (pick key) (owedAll hs) (r .clock) ts hs) (sym (tasks-arrive r ws s p)) (sym (handlers-arrive r ws s p))
+      ∙ ap₂ (λ (ts hs : List Live). givenBy (serveBy key) (owedAll hs) (r .clock) ts hs) (sym (tasks-arrive r ws s p)) (sym (handlers-arrive r ws s p))
 
   -- The table stays, of a refused step too.
   pub step-tasks : taskRows (stepBy key r ws .run) ≡ taskRows r
@@ -69,14 +69,14 @@ module _ (key : Live → ℕ) (r : Run) (ws : List ℕ) where
       go (accepted a) = ap (λ (x : Stepped). handlerRows (x .run)) (step-ticks key r ws a)
       go (unchanged e) = ap handlerRows e
 
-  module _ (s : Sound r) (a : Accepted r ws) where
+  module _ (s : WellMade r) (a : Accepted r ws) where
     abbrev after : Run
     after = stepBy key r ws .run
 
     abbrev OnTimeThen : Type 0
     OnTimeThen = OnTime (after .clock) (viewOf after .tasks)
 
-    pub step-view : viewOf (stepBy key r ws .run) ≡ tickBy (pick key) (offerOf r ws) (viewOf r)
+    pub step-view : viewOf (stepBy key r ws .run) ≡ tickBy (serveBy key) (offerOf r ws) (viewOf r)
     step-view = ap (λ (x : Stepped). viewOf (x .run)) (step-ticks key r ws a) ∙ ticked-view s (passed r ws a)
 
     -- The late row is the first task owed work at its deadline, and the run is over where there is one.
