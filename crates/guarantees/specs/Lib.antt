@@ -1,4 +1,5 @@
--- Contents. What a sheet promises of the scheduler (00, demand 3), said of the very definitions that `verdict`, `Run::fresh` and `step` promise.
+-- Contents. What a sheet promises of the scheduler (00, demand 3), said of the very definitions that `verdict`, `Run::fresh` and
+-- `step` promise.
 -- accepted arrivals come no sooner than a period after the last and bring at most the cost, and the reverse
 pub mod LegalArrivals
 -- so two accepted arrivals of a row are at least its period apart, whatever is offered between them

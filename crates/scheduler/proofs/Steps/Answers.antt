@@ -1,17 +1,17 @@
 -- The refusals of a step one after the other, and what a step that is not refused has passed.
 --   Passed r ws        no refusal of 6 to 11 applies
 --   Outcome key r ws   the step is refused, or passes every test and is the tick
-use mathlib.Core.Bool.{true, false}
+use mathlib.Core.Bool.{Bool, true, false, not}
 use mathlib.Core.List.{List}
 use mathlib.Core.Logic.{_⊎_, inl, inr}
-use mathlib.Core.Path.{_≡_, refl}
+use mathlib.Core.Path.{_≡_, refl, sym}
 use native.Mathlib.Nat.{eq-zero-or-pos}
 use native.Mathlib.Omega.{arith}
 use borrow.Author.Tests.{eqb-true, eqb-false, eq-eqb, ne-eqb, not-false}
 use Prim.Native.Nat.{ℕ, _≤_, _<_}
+use lib.Dec.{eqb}
 use lib.ListN.{length}
-use Rattle.demand.proofs.Chains.{none-first}
-use Rattle.demand.specs.Tests.{firstRefusal}
+use Rattle.demand.proofs.Chains.{first-at, first-none, none-first}
 use Rattle.demand.specs.Limits.{ticksMost}
 use Rattle.scheduler.specs.Bounds.{outOfBounds, InBounds}
 use Rattle.machine.specs.Live.{Live}
@@ -30,52 +30,64 @@ pub record Passed (r : Run) (ws : List ℕ) : Type 0 where
   pub timely : any (early (r .clock) (r .next) ws) (rowCount r) ≡ false
   pub light : any (heavy (rowIn r) ws) (rowCount r) ≡ false
 
--- ---- the number of each answer
+-- ---- the number of each answer, from what its test and those before it say
 
 module _ (r : Run) (ws : List ℕ) where
+  -- The tests of a step, where they are said of the numbers that it was given.
+  soon-test : (r .clock ≡ ticksMost → ⊥) → eqb (r .clock) ticksMost ≡ false
+  soon-test soon = ne-eqb _ _ soon
+
+  count-test : length ws ≡ rowCount r → not (eqb (length ws) (rowCount r)) ≡ false
+  count-test count = rw (eq-eqb _ _ count)
+
+  over-rows : {b : Bool} (p : ℕ → Bool) → length ws ≡ rowCount r → any p (length ws) ≡ b → any p (rowCount r) ≡ b
+  over-rows p count e = rw (← count) e
+
   pub refusal-6 : true ≡ outOfBounds r → 6 ≡ stepRefusal r ws
-  unfolding stepRefusal stepTests firstRefusal
-  refusal-6 a = rw (← a)
+  unfolding stepRefusal stepTests
+  refusal-6 a = first-at (stepTests r ws) 0 tt (sym a)
 
   module _ (in-bounds : false ≡ outOfBounds r) where
     pub refusal-7 : r .over ≡ true → 7 ≡ stepRefusal r ws
-    unfolding stepRefusal stepTests firstRefusal
-    refusal-7 a = rw (← in-bounds, a)
+    unfolding stepRefusal stepTests
+    refusal-7 a = first-at (stepTests r ws) 1 (sym in-bounds, tt) a
 
     module _ (going : r .over ≡ false) where
       pub refusal-8 : r .clock ≡ ticksMost → 8 ≡ stepRefusal r ws
-      unfolding stepRefusal stepTests firstRefusal
-      refusal-8 a = rw (← in-bounds, going, eq-eqb _ _ a)
+      unfolding stepRefusal stepTests
+      refusal-8 a = first-at (stepTests r ws) 2 (sym in-bounds, (going, tt)) (eq-eqb _ _ a)
 
       module _ (soon : r .clock ≡ ticksMost → ⊥) where
         pub refusal-9 : (length ws ≡ rowCount r → ⊥) → 9 ≡ stepRefusal r ws
-        unfolding stepRefusal stepTests firstRefusal
-        refusal-9 a = rw (← in-bounds, going, ne-eqb _ _ soon, ne-eqb _ _ a)
+        unfolding stepRefusal stepTests
+        refusal-9 a = first-at (stepTests r ws) 3 (sym in-bounds, (going, (soon-test soon, tt))) (rw (ne-eqb _ _ a))
 
         module _ (count : length ws ≡ rowCount r) where
           pub refusal-10 : any (early (r .clock) (r .next) ws) (length ws) ≡ true → 10 ≡ stepRefusal r ws
-          unfolding stepRefusal stepTests firstRefusal
-          refusal-10 a = rw (← in-bounds, going, ne-eqb _ _ soon, eq-eqb _ _ count, ← count, a)
+          unfolding stepRefusal stepTests
+          refusal-10 a = first-at (stepTests r ws) 4 (sym in-bounds, (going, (soon-test soon, (count-test count, tt)))) (over-rows _ count a)
 
           module _ (timely : any (early (r .clock) (r .next) ws) (length ws) ≡ false) where
             pub refusal-11 : any (heavy (rowIn r) ws) (length ws) ≡ true → 11 ≡ stepRefusal r ws
-            unfolding stepRefusal stepTests firstRefusal
-            refusal-11 a = rw (← in-bounds, going, ne-eqb _ _ soon, eq-eqb _ _ count, ← count, timely, a)
+            unfolding stepRefusal stepTests
+            refusal-11 a =
+                first-at (stepTests r ws) 5 (sym in-bounds, (going, (soon-test soon, (count-test count, (over-rows _ count timely, tt))))) (over-rows _ count a)
 
             pub refusal-0 : any (heavy (rowIn r) ws) (length ws) ≡ false → 0 ≡ stepRefusal r ws
-            unfolding stepRefusal stepTests firstRefusal
-            refusal-0 a = rw (← in-bounds, going, ne-eqb _ _ soon, eq-eqb _ _ count, ← count, timely, a)
+            unfolding stepRefusal stepTests
+            refusal-0 a =
+                first-none (stepTests r ws) (sym in-bounds, (going, (soon-test soon, (count-test count, (over-rows _ count timely, (over-rows _ count a, tt))))))
 
 -- ---- what no refusal says
 
 pub passed : (r : Run) (ws : List ℕ) → stepRefusal r ws ≡ 0 → Passed r ws
 unfolding stepRefusal stepTests
 passed r ws e =
-    let (in-bounds, (going, (soon, (count, (timely, (light, _)))))) = none-first (stepTests r ws) refl e in
-    let below : r .clock ≤ ticksMost = clauses-clock r (clauses r in-bounds) in
-    let apart : r .clock ≡ ticksMost → ⊥ = eqb-false _ _ soon in
+    let (bounds, (going, (last, (count, (timely, (light, _)))))) = none-first (stepTests r ws) refl e in
+    let below : r .clock ≤ ticksMost = clauses-clock r (clauses r bounds) in
+    let apart : r .clock ≡ ticksMost → ⊥ = eqb-false _ _ last in
     record {
-      in-bounds = in-bounds;
+      in-bounds = bounds;
       going = going;
       soon = omega arith;
       count = eqb-true _ _ (not-false _ count);
