@@ -1,8 +1,8 @@
 use Rattle.text.specs.English.{english}
 use Rattle.text.proofs.Writes.{text-fits}
 use borrow.Author.Needs.{needs}
-use Rattle.fit.proofs.explain.Statement.{statement}
-use Rattle.fit.proofs.explain.Tie as tie
+use Rattle.console.proofs.explain.Statement.{statement}
+use Rattle.console.proofs.explain.Tie as tie
 
 slice-aggregate-write-all : tie.Need-slice-aggregate-write-all
 slice-aggregate-write-all c = search needs
