@@ -57,8 +57,8 @@ pub fn read(bytes: &[u8]) -> Option<Said> {
     Some(said)
 }
 
-/// The two lines that the program must print, where a blind search can tell.
-pub fn sheet(bytes: &[u8], patience: u128) -> Option<String> {
+/// The two lines that the program must print, or the length to which a blind search would have to go to tell.
+pub fn sheet(bytes: &[u8], patience: u128) -> Result<String, u128> {
     let g = match read(bytes) {
         None => [2, 12, 0, 0, 0, 0],
         Some(said) if said.misplaced => {
@@ -68,7 +68,7 @@ pub fn sheet(bytes: &[u8], patience: u128) -> Option<String> {
         Some(said) => model::verdict(&said.table.tasks, &said.table.handlers, patience)?,
     };
     let word = ["fits", "misses", "refused"][g[0] as usize];
-    Some(format!("verdict,code,interval,handler,task,load\r\n{word},{},{},{},{},{}\r\n", g[1], g[2], g[3], g[4], g[5]))
+    Ok(format!("verdict,code,interval,handler,task,load\r\n{word},{},{},{},{},{}\r\n", g[1], g[2], g[3], g[4], g[5]))
 }
 
 /// A table as text under either header, and then perhaps damaged.

@@ -1,6 +1,8 @@
 //! Compares the proved library with the slow second program on many tables.
 //!     second SEED COUNT FIT ANSWERS    COUNT tables of each kind through the program ANSWERS (second/answers.c), and as many files
 //!                                      through the program FIT; ends with status 1 at the first difference, and prints what shows it
+//!     second fit PATIENCE              reads a table file from standard input and prints the lines that `fit` must print, or, where no length up
+//!                                      to PATIENCE fails and that settles nothing, `patience PATIENCE LENGTH`: how far it would have to go
 
 mod files;
 mod model;
@@ -11,6 +13,7 @@ mod steps;
 mod tables;
 
 use random::Random;
+use std::io::Read;
 use std::process::exit;
 use tables::Table;
 
@@ -42,7 +45,7 @@ fn ask(table: &Table, l: u64, counts: &mut Counts) {
     let code = model::asked_refusal(t, h, l);
     let (f, d) = if code == 0 && l as u128 <= PATIENCE {
         let l = l as u128;
-        (model::handled(&model::handlers_of(h), l)[l as usize], model::due(&model::tasks_of(t), l))
+        (model::handled(&model::handlers_of(h), l), model::due(&model::tasks_of(t), l))
     } else if code == 0 {
         return;
     } else {
@@ -69,7 +72,7 @@ fn ask(table: &Table, l: u64, counts: &mut Counts) {
 
 fn judge(table: &Table, counts: &mut Counts) {
     counts.tables += 1;
-    let Some(want) = model::verdict(&table.tasks, &table.handlers, PATIENCE) else { return };
+    let Ok(want) = model::verdict(&table.tasks, &table.handlers, PATIENCE) else { return };
     let got = proved::verdict(&table.tasks, &table.handlers);
     if got != want {
         differ("verdict", table, format!("{got:?}"), format!("{want:?}"));
@@ -101,7 +104,7 @@ fn read_all(random: &mut Random, count: u64, program: &str) -> (u64, u64) {
     let (mut compared, mut broken) = (0, 0);
     for _ in 0..count {
         let file = files::file(random);
-        let Some(want) = files::sheet(&file, PATIENCE) else { continue };
+        let Ok(want) = files::sheet(&file, PATIENCE) else { continue };
         let got = files::run(program, &file);
         if got != want {
             println!("DIFFERENT sheet: proved {got:?}, second program {want:?}");
@@ -114,11 +117,31 @@ fn read_all(random: &mut Random, count: u64, program: &str) -> (u64, u64) {
     (compared, broken)
 }
 
+/// What `fit` must print of the table file on standard input.
+fn print_sheet(patience: u128) {
+    let mut file = vec![];
+    // One byte more than a file may have, so that a longer one is known as such.
+    if let Err(error) = std::io::stdin().take(4097).read_to_end(&mut file) {
+        eprintln!("second: standard input could not be read to its end: {error}");
+        exit(3);
+    }
+    match files::sheet(&file, patience) {
+        Ok(lines) => print!("{lines}"),
+        Err(length) => println!("patience {patience} {length}"),
+    }
+}
+
 fn main() {
     let words: Vec<String> = std::env::args().skip(1).collect();
+    if let [command, patience] = &words[..] {
+        match (command.as_str(), patience.parse()) {
+            ("fit", Ok(patience)) => return print_sheet(patience),
+            _ => {}
+        }
+    }
     let numbers: Vec<u64> = words.iter().filter_map(|a| a.parse().ok()).collect();
     let ([seed, count], Some(program), Some(answers)) = (&numbers[..], words.get(2), words.get(3)) else {
-        eprintln!("usage: second SEED COUNT FIT ANSWERS");
+        eprintln!("usage: second SEED COUNT FIT ANSWERS, or second fit PATIENCE");
         exit(2);
     };
     proved::start(answers);

@@ -54,20 +54,33 @@ pub fn asked_refusal(tasks: &[u32], handlers: &[u32], l: u64) -> u32 {
     }
 }
 
-/// f(0), f(1), .., f(l), by the recurrence. The work called for grows with each arrival.
-pub fn handled(handlers: &[Handler], l: u128) -> Vec<u128> {
-    let mut f = vec![0];
-    let mut work = 0;
-    for tick in 1..=l {
+/// f, tick by tick, by the recurrence. The work called for grows with each arrival.
+#[derive(Default)]
+pub struct Handled {
+    tick: u128,
+    work: u128,
+    pub ticks: u128,
+}
+
+impl Handled {
+    fn next(&mut self, handlers: &[Handler]) {
         for h in handlers {
-            if (tick - 1) % h.period == 0 {
-                work += h.cost;
+            if self.tick % h.period == 0 {
+                self.work += h.cost;
             }
         }
-        let last = f[f.len() - 1];
-        f.push(if last < work { last + 1 } else { last });
+        if self.ticks < self.work {
+            self.ticks += 1;
+        }
+        self.tick += 1;
     }
-    f
+}
+
+/// f(l).
+pub fn handled(handlers: &[Handler], l: u128) -> u128 {
+    let mut f = Handled::default();
+    (0..l).for_each(|_| f.next(handlers));
+    f.ticks
 }
 
 /// D(l): each task's deadlines up to l, counted, the first job arriving at 0.
@@ -97,9 +110,9 @@ pub fn period(all: &[u128]) -> Option<u128> {
 }
 
 /// The six figures of a sheet: 0 fits, 1 misses, 2 refused; code, interval, handler, task, load.
-/// None where a blind search would have to go further than `patience`.
-pub fn verdict(tasks: &[u32], handlers: &[u32], patience: u128) -> Option<[u64; 6]> {
-    let refused = |k: u32| Some([2, k as u64, 0, 0, 0, 0]);
+/// Where a blind search would have to go further than `patience`, the length to which it would have to go.
+pub fn verdict(tasks: &[u32], handlers: &[u32], patience: u128) -> Result<[u64; 6], u128> {
+    let refused = |k: u32| Ok([2, k as u64, 0, 0, 0, 0]);
     let k = table_refusal(tasks, handlers);
     if k != 0 {
         return refused(k);
@@ -115,20 +128,21 @@ pub fn verdict(tasks: &[u32], handlers: &[u32], patience: u128) -> Option<[u64; 
     }
     // Blind: every length, twice as far as H, and only a table that is not overfull may end without a failure.
     let end = (2 * hyper).min(patience);
-    let f = handled(&h, end);
+    let mut f = Handled::default();
     let mut d = 0;
     for l in 1..=end {
+        f.next(&h);
         for task in &t {
             if l >= task.deadline && (l - task.deadline) % task.period == 0 {
                 d += task.cost;
             }
         }
-        if f[l as usize] + d > l {
-            return Some([1, 0, l as u64, f[l as usize] as u64, d as u64, load as u64]);
+        if f.ticks + d > l {
+            return Ok([1, 0, l as u64, f.ticks as u64, d as u64, load as u64]);
         }
     }
     if end < 2 * hyper {
-        return None;
+        return Err(2 * hyper);
     }
-    Some([0, 0, 0, 0, 0, load as u64])
+    Ok([0, 0, 0, 0, 0, load as u64])
 }
