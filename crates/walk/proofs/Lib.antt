@@ -1,0 +1,4 @@
+pub mod Queue
+pub mod Settling
+pub mod Taking
+pub mod Adding
