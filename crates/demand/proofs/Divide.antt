@@ -8,6 +8,8 @@ use native.Mathlib.Nat.{div-zero, div-mul-le-self, le-div-iff-mul-le, div-lt-iff
 use native.Mathlib.Omega.{arith}
 use borrow.Author.Tests.{le-ltb, lt-ltb}
 use Prim.Native.Nat.{ℕ, zero, suc, _+_, _-_, _*_, _/_, _≤_, _<_}
+use Rattle.walk.specs.Queue.{events}
+use Rattle.walk.proofs.Queue.{events-none}
 use Rattle.demand.specs.Demands.{ceil, within}
 
 -- (k - d) / p rounded down and one more if d ≤ k, else 0, for d from 1 to p.
@@ -36,6 +38,21 @@ within-jobs k d p pos l = go (le-or-lt d k)
         rw (le-ltb k d h) (sym (one ∙ ap (λ (z : ℕ). z / p + 1) e))
     go (inr h) = rw (lt-ltb k d h) (sym (div-eq-of-lt (omega arith)))
 
+-- The same of a walk's events,
+pub events-within : (x d p : ℕ) → 0 < p → events x d p ≡ within x d p
+events-within x d p pos = go (le-or-lt d x)
+  where
+    go : (d ≤ x) ⊎ (x < d) → events x d p ≡ within x d p
+    go (inl h) =
+        let one : (x + p - d) / p ≡ (x + p - d - p) / p + 1 = div-eq-sub-div pos (omega arith) in
+        let e : x + p - d - p ≡ x - d = omega arith in
+        rw (le-ltb x d h) (one ∙ ap (λ (z : ℕ). z / p + 1) e)
+    go (inr h) = rw (lt-ltb x d h) (events-none x d p h)
+
+-- and of those from the first tick on what A counts.
+pub events-ceil : (x p : ℕ) → 0 < p → events x 1 p ≡ ceil x p
+events-ceil x p pos = let e : x + p - 1 ≡ x + (p - 1) = omega arith in ap (λ (z : ℕ). z / p) e
+
 -- A longer interval counts no fewer, a longer period and a later deadline no more.
 pub within-le : (x y d e p q : ℕ) → 0 < q → x ≤ y → q ≤ p → e ≤ d → within x d p ≤ within y e q
 within-le x y d e p q pos h l m = go (le-or-lt d x)
@@ -47,14 +64,6 @@ within-le x y d e p q pos h l m = go (le-or-lt d x)
     go (inl k) = rw (le-ltb x d k, le-ltb y e (omega arith)) (omega (arith, fewer))
     go (inr k) = rw (lt-ltb x d k) (omega arith)
 
--- None before the first deadline; behind it their periods are at most the ticks and one period.
-pub within-mul : (k d p : ℕ) → (within k d p ≡ 0) ⊎ ((d ≤ k) × (within k d p * p ≤ k + p))
-within-mul k d p = go (le-or-lt d k)
-  where
-    go : (d ≤ k) ⊎ (k < d) → (within k d p ≡ 0) ⊎ ((d ≤ k) × (within k d p * p ≤ k + p))
-    go (inl h) = inr (h, rw (le-ltb k d h) (omega (arith, div-mul-le-self (k - d) p)))
-    go (inr h) = inl (rw (lt-ltb k d h))
-
 -- At most one for each tick, and one more.
 pub within-most : (k d p : ℕ) → within k d p ≤ k + 1
 within-most k d p = go (le-or-lt d k)
@@ -62,10 +71,6 @@ within-most k d p = go (le-or-lt d k)
     go : (d ≤ k) ⊎ (k < d) → within k d p ≤ k + 1
     go (inl h) = rw (le-ltb k d h) (omega (arith, div-le-self (k - d) p))
     go (inr h) = rw (lt-ltb k d h) (omega arith)
-
--- Where the deadline is the period, division.
-pub jobs-plain : (k p : ℕ) → jobs k p p ≡ k / p
-jobs-plain k p = let e : k + (p - p) ≡ k = omega arith in ap (λ (z : ℕ). z / p) e
 
 pub jobs-mono : (d p : ℕ) {x y : ℕ} → x ≤ y → jobs x d p ≤ jobs y d p
 jobs-mono d p h = div-mono p (omega arith)
@@ -146,12 +151,6 @@ ceil-le a zero pos = omega (arith, ceil-zero a)
 ceil-le a (suc x) pos =
     let l : ceil (suc x) a < suc (suc x) = div-lt-iff-lt-mul pos .1 (omega (arith, mul-le-mul-left x pos)) in
     omega arith
-
--- ---- between two multiples a count stays
-
--- Rounded up: the same at every tick up to the next multiple of the period.
-pub ceil-until : (a t x : ℕ) → 0 < a → t < x → x ≤ suc (t / a) * a → ceil x a ≡ suc (t / a)
-ceil-until a t x pos l h = div-eq-of-lt-le a (omega (arith, div-mul-le-self t a)) (omega arith)
 
 -- ---- between two deadlines a count stays
 

@@ -1,3 +1,4 @@
 -- Laws of what stands in specs/Inside.
-pub mod Walk
 pub mod Sizes
+pub mod Events
+pub mod Arrivals

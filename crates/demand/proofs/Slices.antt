@@ -3,13 +3,12 @@ use mathlib.Core.Bool.{Bool, false, _||_}
 use mathlib.Core.List.{List, [], _∷_}
 use mathlib.Core.Path.{_≡_, refl, ap, sym, _∙_}
 use native.Mathlib.Omega.{arith}
-use Prim.Native.Nat.{ℕ, _+_, _-_, _/_, _≤_, _<_, min}
+use Prim.Native.Nat.{ℕ, _+_, _-_, _/_, _≤_, _<_}
 use lib.ListN.{length, getD, take, drop, length-drop}
 use lib.Seq.{take-all, drop-drop}
 use Rattle.demand.specs.Refusals.{FairRow}
 use Rattle.demand.specs.Rows.{Row, tasksOf, handlersOf, rowsOf, width, total, some, Each, rest}
 use Rattle.demand.specs.Inside.Sizes.{Small}
-use Rattle.demand.specs.Inside.Walk.{deadlineAfter, nextDeadline}
 use Rattle.demand.specs.declared.table.Kind.{Kind}
 use Rattle.demand.specs.declared.table.Kind.the-variants.{Task, Handler}
 use Rattle.demand.proofs.Between.{Plain}
@@ -103,10 +102,6 @@ module _ (kind : Kind) (s : List ℕ) (h : length s < width kind) where
   unfolding some
   some-short test = rw (rows-short kind s h)
 
-  pub next-short : (at top : ℕ) → nextDeadline (rowsOf kind s) at top ≡ top
-  unfolding nextDeadline
-  next-short at top = rw (rows-short kind s h)
-
 -- ---- and one row and the rest, of which the code has the width n of a row in hand
 
 pub part-shorter : (kind : Kind) (s : List ℕ) (n : ℕ) → n ≡ width kind → n ≤ length s → length (from n s) < length s
@@ -135,17 +130,3 @@ module _ (kind : Kind) (s : List ℕ) (r : Row) (e : rowsOf kind s ≡ r ∷ row
 
     pub small-part : (l : ℕ) → Small (rowsOf kind s) l → Small (rowsOf kind (from n s)) l
     small-part l h = rw (from-width kind s n w) (small-rest l h)
-
--- ---- a loop that goes row by row: what is left after the row at place i
-
-module _ (kind : Kind) (s : List ℕ) (i : ℕ) (r : Row) (e : rowsOf kind (from i s) ≡ r ∷ rowsOf kind (rest kind (from i s))) where
-  pub next-turn : (at top m : ℕ) → m ≡ min (deadlineAfter at r) top → nextDeadline (rowsOf kind (from (i + width kind) s)) at m ≡ nextDeadline (rowsOf kind (from i s)) at top
-  unfolding nextDeadline
-  next-turn at top m em = rw (e, from-rest kind i s, em)
-
-  pub small-turn : (l : ℕ) → Small (rowsOf kind (from i s)) l → Small (rowsOf kind (from (i + width kind) s)) l
-  small-turn l h = rw (from-rest kind i s) at (small-rest kind (from i s) r e l h)
-
--- No row is left.
-pub next-over : (kind : Kind) (s : List ℕ) (i at top : ℕ) → length s < i + width kind → i ≤ length s → top ≡ nextDeadline (rowsOf kind (from i s)) at top
-next-over kind s i at top h l = sym (next-short kind (from i s) (omega (arith, from-length i s)) at top)

@@ -1,14 +1,23 @@
 // The two demands of a table and the margin that they leave: what every sheet stands on.
-pub mod readable;
+pub mod arrivals;
+pub mod events;
 pub mod refusal;
 mod rows;
 mod signed;
 pub mod table;
 
+ghost use mathlib.Core.Path.{_≡_};
+ghost use Prim.Native.Nat.{_≤_};
+ghost use lib.ListN.{length};
 ghost use Rattle.demand.specs.Answers.{DemandSays, MarginSays};
 ghost use Rattle.demand.specs.Demands.{handled, due};
+ghost use Rattle.demand.specs.Inside.Sizes.{Small};
+ghost use Rattle.demand.specs.Limits.{handlersMost};
 ghost use Rattle.demand.specs.Refusals.{askedRefusal};
 ghost use Rattle.demand.specs.Rows.{tasksOf, handlersOf};
+use events::Event;
+use table::HANDLERS_MOST;
+use table::Kind;
 
 // A figure in ticks, or the number of the refusal.
 pub enum DemandAnswer {
@@ -30,7 +39,7 @@ pub fn handler_demand(tasks: &[u32], handlers: &[u32], l: u64) -> DemandAnswer
     let number = refusal::of_question(tasks, handlers, l);
     if number == 0 {
         DemandAnswer::Ticks {
-            ticks: readable::handled(tasks, handlers, 0, 0, l),
+            ticks: handled(handlers, l),
         }
     } else {
         DemandAnswer::Refused { number }
@@ -44,7 +53,7 @@ pub fn task_demand(tasks: &[u32], handlers: &[u32], l: u64) -> DemandAnswer
     let number = refusal::of_question(tasks, handlers, l);
     if number == 0 {
         DemandAnswer::Ticks {
-            ticks: readable::due(tasks, handlers, l),
+            ticks: rows::due(tasks, l),
         }
     } else {
         DemandAnswer::Refused { number }
@@ -58,12 +67,23 @@ pub fn margin(tasks: &[u32], handlers: &[u32], l: u64) -> MarginAnswer
 {
     let number = refusal::of_question(tasks, handlers, l);
     if number == 0 {
-        let f = readable::handled(tasks, handlers, 0, 0, l);
-        let d = readable::due(tasks, handlers, l);
+        let f = handled(handlers, l);
+        let d = rows::due(tasks, l);
         MarginAnswer::Ticks {
             ticks: signed::less_both(l, f, d),
         }
     } else {
         MarginAnswer::Refused { number }
     }
+}
+
+// f at l, along the arrivals up to it.
+fn handled(handlers: &[u32], l: u64) -> u64
+    requires { ⌜ Small (handlersOf (now handlers)) l × (length (handlersOf (now handlers)) ≤ handlersMost) ⌝ }
+    ensures { λ r. ⌜ r ≡ handled (handlersOf (now (handlers .entry))) l ⌝ }
+{
+    let mut room = [[0u64; 3]; HANDLERS_MOST];
+    let k = events::begin(Kind::Handler, Event::Arrival, handlers, &mut room);
+    let end = arrivals::to(&mut room[k..], arrivals::start(), l);
+    end.taken
 }

@@ -1,20 +1,13 @@
-// Totals over the rows of one lent list, each handing the list behind its first row on to itself.
+// D over the rows of a lent list, which hands the list behind its first row on to itself.
 ghost use mathlib.Core.Path.{_≡_};
-ghost use Prim.Native.Nat.{_<_, _≤_, min};
-ghost use Rattle.demand.specs.Demands.{called, within, due};
+ghost use Prim.Native.Nat.{_<_, _≤_};
+ghost use Rattle.demand.specs.Demands.{within, due};
 ghost use Rattle.demand.specs.Limits.{ticksMost};
-ghost use Rattle.demand.specs.Rows.{rowsOf, tasksOf};
+ghost use Rattle.demand.specs.Rows.{tasksOf};
 ghost use Rattle.demand.specs.Inside.Sizes.{Small};
-ghost use Rattle.demand.specs.Inside.Walk.{nextDeadline};
 use crate::table::Kind;
 use crate::table::head;
 use crate::table::width;
-
-pub fn lesser(a: u64, b: u64) -> u64
-    ensures { λ r. ⌜ r ≡ min a b ⌝ }
-{
-    if a < b { a } else { b }
-}
 
 // How many jobs have their deadline within l ticks, the first of them arriving at once.
 fn jobs(l: u64, deadline: u64, period: u64) -> u64
@@ -40,35 +33,4 @@ pub fn due(tasks: &[u32], l: u64) -> u64
     let task = head(Kind::Task, tasks);
     let rest = due(&tasks[own..], l);
     task.cost * jobs(l, task.deadline, task.period) + rest
-}
-
-// A of either kind: the work that the rows of s are called for within l ticks.
-pub fn called(kind: Kind, s: &[u32], l: u64) -> u64
-    requires { ⌜ Small (rowsOf kind (now s)) l ⌝ }
-    ensures { λ r. ⌜ r ≡ called (rowsOf kind (now (s .entry))) l ⌝ }
-{
-    let own = width(kind);
-    if s.len() < own {
-        return 0;
-    }
-    let row = head(kind, s);
-    let rest = called(kind, &s[own..], l);
-    row.cost * ((l + (row.period - 1)) / row.period) + rest
-}
-
-// The first deadline of a row above at, or top where that comes first.
-pub fn next_deadline(kind: Kind, s: &[u32], at: u64, top: u64) -> u64
-    requires { ⌜ Small (rowsOf kind (now s)) at ⌝ }
-    ensures { λ r. ⌜ r ≡ nextDeadline (rowsOf kind (now (s .entry))) at top ⌝ }
-{
-    let step = width(kind);
-    let mut first = top;
-    let mut i = 0;
-    while i + step <= s.len() {
-        let row = head(kind, &s[i..]);
-        let passed = jobs(at, row.deadline, row.period);
-        first = lesser(row.deadline + passed * row.period, first);
-        i += step;
-    }
-    first
 }

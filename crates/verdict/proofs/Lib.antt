@@ -9,5 +9,5 @@ pub mod Full
 pub mod Cases
 pub mod DyeHouse
 pub mod Capped
-pub mod Searching
+pub mod Inside
 pub mod Sayings

@@ -1,12 +1,19 @@
-// The search for the shortest interval that fails: test lengths only, in increasing order, f carried along.
+// The search for the shortest interval that fails: test lengths only, in increasing order, f and D carried along.
 ghost use mathlib.Core.Path.{_≡_};
 ghost use Prim.Native.Nat.{_≤_};
+ghost use Rattle.demand.specs.Inside.Events.{Begun};
 ghost use Rattle.demand.specs.Limits.{ticksMost};
 ghost use Rattle.demand.specs.Refusals.{tableRefusal};
 ghost use Rattle.demand.specs.Rows.{tasksOf, handlersOf};
+ghost use Rattle.demand.specs.declared.events.Event.the-variants.{Arrival, Deadline};
 ghost use Rattle.verdict.specs.Inside.Search.{FoundSays, endBy};
 use crate::Miss;
-use demand::readable;
+use demand::arrivals;
+use demand::events;
+use demand::events::Event;
+use demand::table::HANDLERS_MOST;
+use demand::table::Kind;
+use demand::table::TASKS_MOST;
 
 // The shortest interval that fails, or that there is none.
 pub enum Found {
@@ -31,29 +38,44 @@ pub fn end_of(h: u64, w: u64, bound: u64) -> u64
     if last < h { last } else { h }
 }
 
+// The shortest interval from 1 to end that fails, along the deadlines t of tasks and the arrivals h of handlers.
+fn search(
+    tasks: &[u32],
+    handlers: &[u32],
+    t: &mut [[u64; 3]],
+    h: &mut [[u64; 3]],
+    end: u64,
+) -> Found
+    requires { ⌜ (tableRefusal (now tasks) (now handlers) ≡ 0) × (end ≤ ticksMost) ⌝ }
+    requires { ⌜ Begun Deadline (tasksOf (now tasks)) (now t) × Begun Arrival (handlersOf (now handlers)) (now h) ⌝ }
+    ensures { λ r. ⌜ FoundSays (tasksOf (now (tasks .entry))) (handlersOf (now (handlers .entry))) end r ⌝ }
+{
+    let mut d = 0;
+    let mut p = arrivals::start();
+    while t[0][0] <= end {
+        let n = t[0][0];
+        p = arrivals::to(h, p, n);
+        d = walk::take(t, d);
+        if n < p.taken + d {
+            let miss = Miss {
+                interval: n,
+                handler: p.taken,
+                task: d,
+            };
+            return Found::At { miss };
+        }
+    }
+    Found::Nothing
+}
+
 // The shortest interval from 1 to end that fails.
 pub fn first_failing(tasks: &[u32], handlers: &[u32], end: u64) -> Found
     requires { ⌜ (tableRefusal (now tasks) (now handlers) ≡ 0) × (end ≤ ticksMost) ⌝ }
     ensures { λ r. ⌜ FoundSays (tasksOf (now (tasks .entry))) (handlersOf (now (handlers .entry))) end r ⌝ }
 {
-    let mut l = 0;
-    let mut f = 0;
-    while l < end {
-        let n = readable::next_length(tasks, handlers, l, end + 1);
-        if end < n {
-            return Found::Nothing;
-        }
-        f = readable::handled(tasks, handlers, l, f, n);
-        let d = readable::due(tasks, handlers, n);
-        if n < f + d {
-            let miss = Miss {
-                interval: n,
-                handler: f,
-                task: d,
-            };
-            return Found::At { miss };
-        }
-        l = n;
-    }
-    Found::Nothing
+    let mut t = [[0u64; 3]; TASKS_MOST];
+    let mut h = [[0u64; 3]; HANDLERS_MOST];
+    let i = events::begin(Kind::Task, Event::Deadline, tasks, &mut t);
+    let j = events::begin(Kind::Handler, Event::Arrival, handlers, &mut h);
+    search(tasks, handlers, &mut t[i..], &mut h[j..], end)
 }

@@ -9,7 +9,7 @@ use lib.Dec.{eqb}
 use Prim.Native.Nat.{ℕ, zero, suc, _+_, _-_, _*_, _^_, _≤_, _<_}
 use lib.ListN.{length, getD, set, take, drop, length-set, length-append, length-drop}
 use lib.Seq.{drop-at, length-take-le, drop-set-add, getD-drop}
-use Rattle.walk.specs.Queue.{Entry, next, cost, period, passed, joined, events, toCome, insert, Entries, Ahead, Ordered, FairEntry, Queue, Twin, CanAdd, Added}
+use Rattle.walk.specs.Queue.{Entry, next, cost, period, passed, joined, events, toCome, insert, Entries, Ordered, FairEntry, Queue, Twin, CanAdd, Added}
 use Rattle.walk.proofs.Queue.{entries-map, come-cons, come-passed, insert-come, insert-length, insert-entries, insert-queue}
 
 -- ---- one entry in the place of another
@@ -122,6 +122,7 @@ module _ (e : Entry) (k : ℕ) (q : List Entry) (can : CanAdd e k q) where
         record {
           near = omega arith;
           within = omega arith;
+          some = omega (arith, twin .behind);
           long = length-set q i (joined e (getD q i []));
           queue = rw here (record {
             fair = set-entries FairEntry (drop k q) (i - k) new fair (can .queue .fair);
@@ -141,6 +142,7 @@ module _ (e : Entry) (k : ℕ) (q : List Entry) (can : CanAdd e k q) where
       record {
         near = omega arith;
         within = omega arith;
+        some = omega (arith, can .room, can .within);
         long = omega (
           arith,
           ap length whole,

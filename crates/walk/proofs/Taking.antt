@@ -1,8 +1,8 @@
 -- Taking events one by one: the sum carried and the work to come stay the whole, from the tick of the first on.
 use mathlib.Core.List.{List, [], _∷_, _++_}
-use mathlib.Core.Path.{_≡_, refl, ap, _∙_}
+use mathlib.Core.Path.{_≡_, refl, _∙_}
 use native.Mathlib.Omega.{arith}
-use Prim.Native.Nat.{ℕ, suc, _+_, _≤_, _<_}
+use Prim.Native.Nat.{ℕ, _+_, _≤_, _<_}
 use lib.ListN.{length, take, drop}
 use Rattle.walk.specs.Queue.{Entry, head, next, cost, period, passed, toCome, insert, Queue, FairEntry, Taken}
 use Rattle.walk.proofs.Queue.{head-ahead, come-passed, insert-come, insert-length, insert-queue}

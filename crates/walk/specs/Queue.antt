@@ -107,6 +107,7 @@ pub record CanAdd (e : Entry) (k : ℕ) (q : List Entry) : Type 0 where
 pub record Added (e : Entry) (k : ℕ) (q : List Entry) (j : ℕ) (r : List Entry) : Type 0 where
   pub near : k ≤ j + 1
   pub within : j ≤ k
+  pub some : j < length q
   pub long : length r ≡ length q
   pub queue : Queue (drop j r)
   pub same : (x : ℕ) → toCome (drop j r) x ≡ toCome (e ∷ drop k q) x

@@ -1,6 +1,6 @@
 // Events carried in order, so that a walk along them divides nothing. An entry is [next event, cost, period], and entries stand in order
 // of their next events.
-ghost use mathlib.Core.List.{_∷_, _++_};
+ghost use mathlib.Core.List.{_++_};
 ghost use mathlib.Core.Path.{_≡_};
 ghost use Prim.Native.Nat.{_+_, _<_, _≤_};
 ghost use lib.ListN.{length, take, drop};

@@ -1,17 +1,16 @@
 -- Totals over fair rows fit a word.
 use mathlib.Core.List.{List}
-use mathlib.Core.Logic.{_⊎_, inl, inr}
 use mathlib.Core.Path.{_≡_}
 use native.Mathlib.Nat.{mul-le-mul, le-trans}
 use native.Mathlib.Omega.{arith}
-use Prim.Native.Nat.{ℕ, _+_, _*_, _^_, _≤_, _<_}
+use Prim.Native.Nat.{ℕ, _≤_}
+use lib.ListN.{length}
 use Rattle.demand.specs.Demands.{calledBy, within, dueBy, called, due}
 use Rattle.demand.specs.Inside.Sizes.{rowMost, rowDueMost, calledMost, dueMost, Small}
-use Rattle.demand.specs.Limits.{ticksMost}
+use Rattle.demand.specs.Limits.{handlersMost, ticksMost}
 use Rattle.demand.specs.Refusals.{tableRefusal, askedRefusal, FairRow}
 use Rattle.demand.specs.Rows.{Row, tasksOf, handlersOf, Each, Positive, Valid}
-use Rattle.demand.specs.Inside.Walk.{deadlineAfter}
-use Rattle.demand.proofs.Divide.{ceil-le, within-most, within-mul}
+use Rattle.demand.proofs.Divide.{ceil-le, within-most}
 use Rattle.demand.proofs.Refusals.{refusal-in-range, asked-in-range}
 use Rattle.demand.proofs.Sums.{each-map, total-most}
 
@@ -29,14 +28,6 @@ due-by-most l r h f =
 
 pub called-by-most : (l : ℕ) (r : Row) → l ≤ ticksMost → FairRow r → calledBy l r ≤ rowMost
 called-by-most l r h f = mul-le-mul (f .cost .most) (le-trans (ceil-le (r .period) l (f .period .least)) h)
-
--- The next deadline fits a word, as the row's own does.
-pub after-fits : (at : ℕ) (r : Row) → at ≤ ticksMost → FairRow r → r .deadline < 2 ^ 64 → deadlineAfter at r < 2 ^ 64
-after-fits at r h f own = go (within-mul at (r .deadline) (r .period))
-  where
-    go : (within at (r .deadline) (r .period) ≡ 0) ⊎ ((r .deadline ≤ at) × (within at (r .deadline) (r .period) * r .period ≤ at + r .period)) → deadlineAfter at r < 2 ^ 64
-    go (inl none) = rw none (omega arith)
-    go (inr (early, few)) = omega (arith, f .period .most)
 
 pub due-most : (rs : List Row) (l : ℕ) → Small rs l → due rs l ≤ dueMost
 unfolding due
@@ -59,5 +50,7 @@ module _ (t h : List ℕ) (l : ℕ) (e : askedRefusal t h l ≡ 0) where
   pub tasks-small : Small (tasksOf t) l
   tasks-small = let g = asked-in-range t h l e in record { rows = g .0 .tasks; count = g .0 .tasks-most; ticks = g .1 }
 
-  pub handlers-small : Small (handlersOf h) l
-  handlers-small = let g = asked-in-range t h l e in record { rows = g .0 .handlers; count = omega (arith, g .0 .handlers-most); ticks = g .1 }
+  pub handlers-small : Small (handlersOf h) l × (length (handlersOf h) ≤ handlersMost)
+  handlers-small =
+      let g = asked-in-range t h l e in
+      (record { rows = g .0 .handlers; count = omega (arith, g .0 .handlers-most); ticks = g .1 }, g .0 .handlers-most)

@@ -1,7 +1,6 @@
 use mathlib.Core.Path.{sym, _∙_}
-use native.Mathlib.Omega.{arith}
 use Rattle.demand.proofs.Answers.{demand-answered, demand-refused}
-use Rattle.demand.proofs.Demands.{handled-zero}
+use Rattle.demand.proofs.Inside.Sizes.{handlers-small}
 use borrow.Author.Needs.{needs}
 use Rattle.demand.proofs.handler_demand.Statement.{statement}
 use Rattle.demand.proofs.handler_demand.Tie as tie
@@ -10,7 +9,7 @@ of-question-requires : tie.Need-of-question-requires
 of-question-requires c κs = search needs
 
 handled-requires : tie.Need-handled-requires
-handled-requires c κs = (sym (c .before .of-question .ensures) ∙ c .if1 .taken, (omega arith, sym (handled-zero _)))
+handled-requires c κs = handlers-small _ _ _ (sym (c .before .of-question .ensures) ∙ c .if1 .taken)
 
 returns : tie.Need-returns
 returns c = demand-answered _ _ _ (sym (c .before .before .of-question .ensures) ∙ c .before .if1 .taken) (c .handled .ensures)

@@ -4,9 +4,9 @@ use mir.ValLaws.{toZ-ofZ}
 use native.Mathlib.Omega.{arith}
 use Rattle.demand.specs.Rows.{handlersOf}
 use Rattle.demand.proofs.Answers.{margin-answered, margin-refused}
-use Rattle.demand.proofs.Demands.{handled-zero, handled-le}
+use Rattle.demand.proofs.Demands.{handled-le}
 use Rattle.demand.proofs.Signs.{margin-read}
-use Rattle.demand.proofs.Inside.Sizes.{tasks-small, due-most}
+use Rattle.demand.proofs.Inside.Sizes.{tasks-small, handlers-small, due-most}
 use borrow.Author.Needs.{needs}
 use Rattle.demand.proofs.margin.Statement.{statement}
 use Rattle.demand.proofs.margin.Tie as tie
@@ -15,10 +15,10 @@ of-question-requires : tie.Need-of-question-requires
 of-question-requires c κs = search needs
 
 handled-requires : tie.Need-handled-requires
-handled-requires c κs = (sym (c .before .of-question .ensures) ∙ c .if1 .taken, (omega arith, sym (handled-zero _)))
+handled-requires c κs = handlers-small _ _ _ (sym (c .before .of-question .ensures) ∙ c .if1 .taken)
 
 due-requires : tie.Need-due-requires
-due-requires c κs = search needs
+due-requires c κs = tasks-small _ _ _ (sym (c .before .before .of-question .ensures) ∙ c .before .if1 .taken)
 
 less-both-requires : tie.Need-less-both-requires
 less-both-requires c κs =

@@ -1,5 +1,6 @@
 use mathlib.Core.Path.{sym, _∙_}
 use Rattle.demand.proofs.Answers.{demand-answered, demand-refused}
+use Rattle.demand.proofs.Inside.Sizes.{tasks-small}
 use borrow.Author.Needs.{needs}
 use Rattle.demand.proofs.task_demand.Statement.{statement}
 use Rattle.demand.proofs.task_demand.Tie as tie
@@ -8,7 +9,7 @@ of-question-requires : tie.Need-of-question-requires
 of-question-requires c κs = search needs
 
 due-requires : tie.Need-due-requires
-due-requires c κs = sym (c .before .of-question .ensures) ∙ c .if1 .taken
+due-requires c κs = tasks-small _ _ _ (sym (c .before .of-question .ensures) ∙ c .if1 .taken)
 
 returns : tie.Need-returns
 returns c = demand-answered _ _ _ (sym (c .before .before .of-question .ensures) ∙ c .before .if1 .taken) (c .due .ensures)

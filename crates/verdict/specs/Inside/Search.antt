@@ -2,12 +2,18 @@
 --   endBy H W B            == the smallest end that the facts allow where H, W and the bound are these
 --   searchEnd ts hs        == that end of a table: no length above it need be looked at
 --   FoundSays ts hs end r  the search's answer: the shortest length that fails, with what is told of it, or that none up to end does
+--   Searched ts hs t h p d == the search stands at p, f and A carried there, and at d, D carried: events t and h are to come, all has passed
 use mathlib.Core.List.{List}
 use mathlib.Core.Path.{_≡_}
-use Prim.Native.Nat.{ℕ, _-_, _/_, _≤_, min}
+use Prim.Native.Nat.{ℕ, _+_, _-_, _/_, _≤_, min}
 use lib.Dec.{ltb, eqb}
+use lib.ListN.{length}
+use Rattle.walk.specs.Queue.{Entry, toCome, Ahead, Queue}
+use Rattle.demand.specs.Demands.{called, due}
+use Rattle.demand.specs.Inside.Arrivals.{Follows}
 use Rattle.demand.specs.Rows.{Row}
 use Rattle.demand.specs.Tests.{pick}
+use Rattle.demand.specs.declared.arrivals.Progress.{Progress}
 use Rattle.verdict.specs.Facts.{PassesTo, bound}
 use Rattle.verdict.specs.Loads.{whole}
 use Rattle.verdict.specs.Multiples.{common}
@@ -35,3 +41,14 @@ pub record FoundAt (ts hs : List Row) (end : ℕ) (m : Miss) : Type 0 where
 unfoldable pub FoundSays : List Row → List Row → ℕ → Found → Type 0
 FoundSays ts hs end (At miss) = FoundAt ts hs end miss
 FoundSays ts hs end Nothing = PassesTo ts hs end
+
+pub record Searched (ts hs : List Row) (t h : List Entry) (p : Progress) (d : ℕ) : Type 0 where
+  pub some : 1 ≤ length t
+  pub tasks : Queue t
+  pub handlers : Queue h
+  pub tasks-ahead : Ahead (p .at) t
+  pub handlers-ahead : Ahead (p .at) h
+  pub low : p .taken ≤ p .called
+  pub follows : Follows (called hs) h p
+  pub dues : (x : ℕ) → p .at ≤ x → due ts x ≡ d + toCome t x
+  pub passed : PassesTo ts hs (p .at)

@@ -1,0 +1,2 @@
+-- Laws of what stands in specs/Inside.
+pub mod Search

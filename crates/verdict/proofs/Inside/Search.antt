@@ -1,0 +1,165 @@
+-- The search from one deadline to the next: what has passed so far, and what the first length that fails says.
+use mathlib.Core.List.{List}
+use mathlib.Core.Logic.{_⊎_, inl, inr}
+use mathlib.Core.Path.{_≡_, ap, sym, _∙_}
+use native.Mathlib.Omega.{arith}
+use Prim.Native.Nat.{ℕ, zero, suc, _+_, _-_, _^_, _≤_, _<_}
+use lib.ListN.{length, take, drop, length-drop}
+use lib.Seq.{take-all}
+use Rattle.walk.specs.Queue.{Entry, head, next, toCome, CanTake, Taken}
+use Rattle.walk.proofs.Queue.{ahead-head, come-none, come-before}
+use Rattle.demand.specs.Demands.{called, handled, due, Passes}
+use Rattle.demand.specs.Inside.Arrivals.{outset, Level, Come}
+use Rattle.demand.specs.Inside.Events.{Placeable, Begun}
+use Rattle.demand.specs.Inside.Sizes.{Small}
+use Rattle.demand.specs.Limits.{tasksMost, handlersMost, ticksMost}
+use Rattle.demand.specs.Refusals.{InRange, tableRefusal}
+use Rattle.demand.specs.Rows.{Row, tasksOf, handlersOf}
+use Rattle.demand.specs.declared.arrivals.Progress.{Progress}
+use Rattle.demand.specs.declared.events.Event.{Event}
+use Rattle.demand.specs.declared.events.Event.the-variants.{Arrival, Deadline}
+use Rattle.demand.proofs.Between.{passes-flat}
+use Rattle.demand.proofs.Demands.{passes-zero, handled-le}
+use Rattle.demand.proofs.Divide.{le-or-lt}
+use Rattle.demand.proofs.Inside.Arrivals.{outset-follows, follows-handled}
+use Rattle.demand.proofs.Inside.Events.{work-due, handlers-placeable}
+use Rattle.demand.proofs.Inside.Sizes.{fair-positive, due-most, called-most}
+use Rattle.demand.proofs.Refusals.{refusal-in-range}
+use Rattle.verdict.specs.Facts.{PassesTo}
+use Rattle.verdict.specs.Inside.Search.{FoundAt, Searched}
+
+-- Before the first tick nothing has been asked.
+pub searched-start : (ts hs : List Row) (t h : List Entry) (p : Progress) → InRange ts hs → Begun Deadline ts t → Begun Arrival hs h → p ≡ outset
+    → Searched ts hs t h p 0
+searched-start ts hs t h p range deadlines arrivals e =
+    rw e (record {
+      some = deadlines .some (range .some-task);
+      tasks = deadlines .queue;
+      handlers = arrivals .queue;
+      tasks-ahead = deadlines .ahead;
+      handlers-ahead = arrivals .ahead;
+      low = omega arith;
+      follows = outset-follows hs h arrivals (fair-positive hs (range .handlers));
+      dues = λ x m. omega (arith, deadlines .work x, work-due ts x (fair-positive ts (range .tasks)));
+      passed = λ l from within. absurd (omega arith);
+    })
+
+module _ (ts hs : List Row) (range : InRange ts hs) (t h : List Entry) (p : Progress) (d : ℕ) (so-far : Searched ts hs t h p d) where
+  pub next-above : p .at < next (head t)
+  next-above = ahead-head t (p .at) (so-far .some) (so-far .tasks-ahead)
+
+  passes-here : Passes ts hs (p .at)
+  passes-here = go (p .at) (so-far .passed)
+    where
+      go : (l : ℕ) → PassesTo ts hs l → Passes ts hs l
+      go zero passed = passes-zero ts hs (range .deadlines)
+      go (suc l) passed = passed (suc l) (omega arith) (omega arith)
+
+  -- D stays up to the next deadline, so every length before it passes.
+  before-next : (x : ℕ) → 1 ≤ x → x < next (head t) → Passes ts hs x
+  before-next x from m = go (le-or-lt x (p .at))
+    where
+      go : (x ≤ p .at) ⊎ (p .at < x) → Passes ts hs x
+      go (inl seen) = so-far .passed x from seen
+      go (inr new) =
+          let e : p .at + (x - p .at) ≡ x = omega arith in
+          let still : due ts x ≡ due ts (p .at) =
+          omega (
+            arith,
+            so-far .dues x (omega arith),
+            so-far .dues (p .at) (omega arith),
+            come-before t x (so-far .tasks) m,
+            come-none (p .at) t (so-far .tasks-ahead),
+          ) in
+          rw e at (passes-flat ts hs (p .at) (x - p .at) (rw e still) passes-here)
+
+  -- No deadline is left up to end: all has passed.
+  pub passes-out : (end : ℕ) → end < next (head t) → PassesTo ts hs end
+  passes-out end m x from within = before-next x from (omega arith)
+
+  module _ (n : ℕ) (here : n ≡ next (head t)) (fits : n ≤ ticksMost) where
+    pub search-level : Level h p n
+    search-level =
+        let small : Small hs n = record { rows = range .handlers; count = omega (arith, range .handlers-most); ticks = fits } in
+        record {
+          queue = so-far .handlers;
+          ahead = so-far .handlers-ahead;
+          low = so-far .low;
+          before = omega (arith, next-above);
+          ticks = fits;
+          fits = omega (arith, so-far .follows .work n (omega (arith, next-above)), called-most hs n small);
+        }
+
+    due-here : d + toCome t n ≡ due ts n
+    due-here = sym (so-far .dues n (omega (arith, next-above)))
+
+    small-here : Small ts n
+    small-here = record { rows = range .tasks; count = range .tasks-most; ticks = fits }
+
+    pub search-can : CanTake t d
+    search-can = record {
+      queue = so-far .tasks;
+      some = so-far .some;
+      early = omega arith;
+      fits = omega (arith, due-here, ap (toCome t) here, due-most ts n small-here);
+    }
+
+    module _ (h' : List Entry) (w : Progress) (come : Come h p n h' w) (t' : List Entry) (e : ℕ) (took : Taken (next (head t)) t d t' e) where
+      search-handled : w .taken ≡ handled hs n
+      search-handled = follows-handled hs h' w (come .follows (called hs) (so-far .follows)) ∙ ap (handled hs) (come .at)
+
+      search-due : e ≡ due ts n
+      search-due =
+          let later = come-none n t' (rw here (took .ahead)) in
+          omega (arith, due-here, took .same n (omega arith), later)
+
+      pub search-fits : w .taken + e < 2 ^ 64
+      search-fits = omega (arith, search-handled, search-due, handled-le hs n, due-most ts n small-here)
+
+      -- The first deadline at which a length fails is the shortest length that does.
+      pub search-found : (end : ℕ) → n ≤ end → n < w .taken + e → FoundAt ts hs end (record { interval = n; handler = w .taken; task = e })
+      search-found end within fails = record {
+        shortest = record {
+          positive = omega (arith, next-above);
+          fails = omega (arith, search-handled, search-due);
+          least = λ x from m. before-next x from (omega arith);
+        };
+        within = within;
+        exact = λ i. record { interval = n; handler = search-handled i; task = search-due i };
+      }
+
+      pub search-on : w .taken + e ≤ n → Searched ts hs t' h' w e
+      search-on passes = record {
+        some = omega (arith, took .long, so-far .some);
+        tasks = took .queue;
+        handlers = come .queue;
+        tasks-ahead = rw (come .at, here) (took .ahead);
+        handlers-ahead = rw (come .at) (come .ahead);
+        low = come .low;
+        follows = come .follows (called hs) (so-far .follows);
+        dues = λ x m. omega (arith, so-far .dues x (omega (arith, next-above, m, come .at)), took .same x (omega (arith, m, come .at)));
+        passed = λ x from within. go x from (le-or-lt n x) (omega (arith, within, come .at));
+      }
+        where
+          go : (x : ℕ) → 1 ≤ x → (n ≤ x) ⊎ (x < n) → x ≤ n → Passes ts hs x
+          go x from (inl last) within = let same : x ≡ n = omega arith in rw same (omega (arith, search-handled, search-due))
+          go x from (inr less) within = before-next x from (omega arith)
+
+-- ---- room for the events of a table
+
+module _ (t h : List ℕ) (e : tableRefusal t h ≡ 0) where
+  pub tasks-room : Placeable (tasksOf t) tasksMost
+  tasks-room = let range = refusal-in-range t h e in record {
+    rows = range .tasks;
+    deadlines = range .deadlines;
+    count = range .tasks-most;
+    room = range .tasks-most;
+  }
+
+  pub handlers-room : Placeable (handlersOf h) handlersMost
+  handlers-room = let range = refusal-in-range t h e in handlers-placeable h handlersMost (range .handlers) (range .handlers-most) (omega arith)
+
+-- The last places of a room of n, as the code lends them.
+pub lent-begun : (event : Event) (rs : List Row) (n k : ℕ) (q : List Entry) → length q ≡ n → Begun event rs (drop k q)
+    → Begun event rs (take (n - k) (drop k q))
+lent-begun event rs n k q long begun = rw (take-all (n - k) (drop k q) (omega (arith, length-drop k q))) begun
