@@ -108,8 +108,8 @@ module _ (kind : Kind) (event : Event) (s : List ℕ) (places i : ℕ) (q : List
     sound : Sound r
     sound = (rw one at (so-far .deadlines)) .0
 
-    left : rowsOf kind (from i s) ≡ r ∷ rowsOf kind (from (i + width kind) s)
-    left = one ∙ ap (λ (z : List ℕ). r ∷ rowsOf kind z) (from-rest kind i s)
+    remaining : rowsOf kind (from i s) ≡ r ∷ rowsOf kind (from (i + width kind) s)
+    remaining = one ∙ ap (λ (z : List ℕ). r ∷ rowsOf kind z) (from-rest kind i s)
 
     -- The row's events and those in their places are all that have been put.
     work : (x : ℕ) → toCome (entry ∷ drop k q) x + workOf event (rowsOf kind (from (i + width kind) s)) x ≡ workOf event (rowsOf kind s) x
@@ -118,7 +118,7 @@ module _ (kind : Kind) (event : Event) (s : List ℕ) (places i : ℕ) (q : List
           arith,
           come-cons entry (drop k q) x,
           so-far .work x,
-          ap (λ (z : List Row). workOf event z x) left,
+          ap (λ (z : List Row). workOf event z x) remaining,
           work-cons event r (rowsOf kind (from (i + width kind) s)) x,
         )
 
@@ -131,7 +131,7 @@ module _ (kind : Kind) (event : Event) (s : List ℕ) (places i : ℕ) (q : List
           ticks = omega (arith, first-most event r fair sound);
         } in
         record {
-          room = omega (arith, so-far .room, ap (λ (z : List Row). length z) left);
+          room = omega (arith, so-far .room, ap (λ (z : List Row). length z) remaining);
           within = omega (arith, so-far .within, so-far .long);
           queue = so-far .queue;
           fair = record { cost = fair .cost .least; period = fair .period .least; word = omega (arith, fair .period .most) };
@@ -144,9 +144,9 @@ module _ (kind : Kind) (event : Event) (s : List ℕ) (places i : ℕ) (q : List
       read = more;
       long = added .long ∙ so-far .long;
       within = omega (arith, added .within, so-far .within);
-      rows = (rw left at (so-far .rows)) .1;
-      deadlines = (rw left at (so-far .deadlines)) .1;
-      room = omega (arith, so-far .room, ap (λ (z : List Row). length z) left, added .near);
+      rows = (rw remaining at (so-far .rows)) .1;
+      deadlines = (rw remaining at (so-far .deadlines)) .1;
+      room = omega (arith, so-far .room, ap (λ (z : List Row). length z) remaining, added .near);
       queue = added .queue;
       ahead = added .ahead 0 (first-least event r sound) (so-far .ahead);
       work = λ x. omega (arith, work x, added .same x);

@@ -2,7 +2,7 @@
 --   endBy H W B            == the smallest end that the facts allow where H, W and the bound are these
 --   searchEnd ts hs        == that end of a table: no length above it need be looked at
 --   FoundSays ts hs end r  the search's answer: the shortest length that fails, with what is told of it, or that none up to end does
---   Searched ts hs t h p d == the search stands at p, f and A carried there, and at d, D carried: events t and h are to come, all has passed
+--   Searched ts hs t h p d the search has come to p .at, with f and A in p, D in d and the events t and h to come: all up to there passes
 use mathlib.Core.List.{List}
 use mathlib.Core.Path.{_≡_}
 use Prim.Native.Nat.{ℕ, _+_, _-_, _/_, _≤_, min}
