@@ -5,6 +5,8 @@ pub mod Limits
 pub mod Tests
 -- the rows of a table
 pub mod Rows
+-- multiples of rows' periods
+pub mod Multiples
 -- A, f, D and the margin
 pub mod Demands
 -- refusals 1, 2, 3, 13 and 5

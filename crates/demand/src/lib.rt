@@ -1,6 +1,7 @@
 // The two demands of a table and the margin that they leave: what every sheet stands on.
 pub mod arrivals;
 pub mod events;
+pub mod multiples;
 pub mod refusal;
 mod rows;
 mod signed;

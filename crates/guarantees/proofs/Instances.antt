@@ -14,7 +14,9 @@ use Rattle.verdict.specs.Cases.{Case, plain, cases}
 use Rattle.verdict.specs.Inside.Search.{endBy, searchEnd}
 use Rattle.verdict.specs.Facts.{bound}
 use Rattle.verdict.specs.Loads.{work, whole, costs, slack, millionths, load}
-use Rattle.verdict.specs.Multiples.{euclid, gcd, lcm, lcmFrom, common}
+use Rattle.euclid.specs.Euclid.{gcd, lcm, euclid}
+use Rattle.demand.specs.Multiples.{lcmFrom}
+use Rattle.verdict.specs.Multiples.{common}
 use Rattle.verdict.specs.Promise.{figures, verdictRefusal, SaysFits, VerdictSays}
 use Rattle.verdict.specs.Promise.Word.{fits, misses}
 use Rattle.verdict.specs.declared.Answer.{Answer}

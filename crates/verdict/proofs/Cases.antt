@@ -24,7 +24,9 @@ use Rattle.verdict.specs.Cases.{Case, plain, cases, CaseHolds, EveryCase
 use Rattle.verdict.specs.Inside.Search.{endBy, searchEnd}
 use Rattle.verdict.specs.Facts.{PassesTo, bound}
 use Rattle.verdict.specs.Loads.{work, whole, costs, slack, millionths, load}
-use Rattle.verdict.specs.Multiples.{euclid, gcd, lcm, lcmFrom, common}
+use Rattle.euclid.specs.Euclid.{gcd, lcm, euclid}
+use Rattle.demand.specs.Multiples.{lcmFrom}
+use Rattle.verdict.specs.Multiples.{common}
 use Rattle.verdict.specs.Promise.{Word, Figures, figures, yesOf, noOf, refusalOf, numbersOf, missAt, verdictRefusal, SaysBy, Says, VerdictSays}
 use Rattle.verdict.specs.Promise.Word.{fits, misses, refused}
 use Rattle.verdict.proofs.Facts.Ends.{end-enough}

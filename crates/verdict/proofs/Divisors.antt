@@ -1,169 +1,18 @@
--- Laws of the greatest common divisor and of H, the least common multiple of all periods (specs/Multiples).
---   IsGcd a b g   g divides both, and what divides n times both divides n times g
-use mathlib.Core.List.{List, [], _∷_}
-use mathlib.Core.Path.{_≡_, refl, ap, sym, subst, _∙_}
-use native.Mathlib.Nat.{
-  dvd-refl,
-  dvd-zero,
-  dvd-trans,
-  dvd-mod-iff,
-  dvd-sub,
-  dvd-mul-left,
-  dvd-mul-right,
-  dvd-mul-right-of-dvd,
-  dvd-of-mul-dvd-mul-right,
-  pos-of-dvd-of-pos,
-  mul-dvd-mul-right,
-  one-dvd,
-  le-of-dvd,
-  mod-def,
-  mod-lt,
-  mul-sub,
-  mul-assoc,
-  mul-comm,
-  mul-pos,
-  div-mul-cancel,
-}
+-- Laws of H, the least common multiple of all periods (specs/Multiples), and H of a table in range as the code finds it.
+use mathlib.Core.List.{List}
+use mathlib.Core.Path.{_≡_, ap, _∙_}
+use native.Mathlib.Nat.{dvd-trans, one-dvd, le-of-dvd}
 use native.Mathlib.Omega.{arith}
-use Prim.Native.Nat.{ℕ, zero, suc, _-_, _*_, _/_, _%_, _≤_, _<_, _∣_}
-use Rattle.demand.specs.Rows.{Row, Positive}
-use Rattle.demand.proofs.Sums.{each-map}
-use Rattle.verdict.specs.Multiples.{euclid, gcd, lcm, lcmFrom, common, Divided, LeastMultiple}
-
-pub record IsGcd (a b g : ℕ) : Type 0 where
-  pub left : g ∣ a
-  pub right : g ∣ b
-  pub great : (n k : ℕ) → k ∣ n * a → k ∣ n * b → k ∣ n * g
-
--- ---- Euclid's rule
-
--- Any count of turns above the second number gives the same.
-euclid-turns : (m n a b : ℕ) → b < m → b < n → euclid m a b ≡ euclid n a b
-unfolding euclid
-euclid-turns zero n a b h l = absurd (omega arith)
-euclid-turns (suc m) zero a b h l = absurd (omega arith)
-euclid-turns (suc m) (suc n) a zero h l = refl
-euclid-turns (suc m) (suc n) a (suc b) h l =
-    let falls : a % suc b < suc b = mod-lt a (omega arith) in
-    euclid-turns m n (suc b) (a % suc b) (omega arith) (omega arith)
-
-pub gcd-zero : (a : ℕ) → gcd a 0 ≡ a
-unfolding gcd euclid
-gcd-zero a = refl
-
-pub gcd-next : (a b : ℕ) → 0 < b → gcd a b ≡ gcd b (a % b)
-unfolding gcd euclid
-gcd-next a zero pos = absurd (omega arith)
-gcd-next a (suc b) pos =
-    let falls : a % suc b < suc b = mod-lt a (omega arith) in
-    euclid-turns (suc b) (suc (a % suc b)) (suc b) (a % suc b) (omega arith) (omega arith)
-
--- What divides n times a and n times b divides n times the remainder.
-mod-dvd : (a b n k : ℕ) → k ∣ n * a → k ∣ n * b → k ∣ n * (a % b)
-mod-dvd a b n k p q =
-    let e : n * (a % b) ≡ n * a - n * b * (a / b) = ap (λ (x : ℕ). n * x) (mod-def a b) ∙ mul-sub n a (b * (a / b)) ∙ ap (λ (x : ℕ). n * a - x) (sym (mul-assoc n b (a / b))) in
-    rw e (dvd-sub k p (dvd-mul-right-of-dvd k q (a / b)))
-
-is-gcd-zero : (a : ℕ) → IsGcd a 0 a
-is-gcd-zero a = record { left = dvd-refl a; right = dvd-zero a; great = λ n k p q. p }
-
-is-gcd-next : (a b g : ℕ) → IsGcd b (a % b) g → IsGcd a b g
-is-gcd-next a b g i = record {
-  left = dvd-mod-iff g (i .left) .0 (i .right);
-  right = i .left;
-  great = λ n k p q. i .great n k q (mod-dvd a b n k p q);
-}
-
-is-euclid : (m a b : ℕ) → b < m → IsGcd a b (euclid m a b)
-unfolding euclid
-is-euclid zero a b h = absurd (omega arith)
-is-euclid (suc m) a zero h = is-gcd-zero a
-is-euclid (suc m) a (suc b) h =
-    let falls : a % suc b < suc b = mod-lt a (omega arith) in
-    is-gcd-next a (suc b) (euclid m (suc b) (a % suc b)) (is-euclid m (suc b) (a % suc b) (omega arith))
-
-pub is-gcd : (a b : ℕ) → IsGcd a b (gcd a b)
-unfolding gcd
-is-gcd a b = is-euclid (suc b) a b (omega arith)
-
-pub gcd-left : (a b : ℕ) → gcd a b ∣ a
-gcd-left a b = is-gcd a b .left
-
-pub gcd-right : (a b : ℕ) → gcd a b ∣ b
-gcd-right a b = is-gcd a b .right
-
-pub gcd-great : (a b k : ℕ) → k ∣ a → k ∣ b → k ∣ gcd a b
-gcd-great a b k p q = subst (λ (x : ℕ). k ∣ x) (one (gcd a b)) (is-gcd a b .great 1 k (rw (one a) p) (rw (one b) q))
-  where
-    one : (x : ℕ) → 1 * x ≡ x
-    one x = omega arith
-
-pub gcd-positive : (a b : ℕ) → 0 < a → 0 < gcd a b
-gcd-positive a b pos = pos-of-dvd-of-pos (gcd-left a b) pos
-
--- ---- the least common multiple of two
-
-pub lcm-right : (a b : ℕ) → b ∣ lcm a b
-unfolding lcm
-lcm-right a b = dvd-mul-left b (a / gcd a b)
-
-pub lcm-left : (a b : ℕ) → a ∣ lcm a b
-unfolding lcm
-lcm-left a b =
-    let q : ℕ = a / gcd a b in
-    let r : ℕ = b / gcd a b in
-    let e : q * b ≡ a * r =
-    omega (arith, ap (λ (x : ℕ). q * x) (div-mul-cancel (gcd a b) (gcd-right a b)), ap (λ (x : ℕ). x * r) (div-mul-cancel (gcd a b) (gcd-left a b))) in
-    subst (λ (x : ℕ). a ∣ x) (sym e) (dvd-mul-right a r)
-
-pub lcm-least : (a b n : ℕ) → 0 < a → a ∣ n → b ∣ n → lcm a b ∣ n
-unfolding lcm
-lcm-least a b n pos p q =
-    let g : ℕ = gcd a b in
-    let e : a * b ≡ a / g * b * g = omega (arith, ap (λ (x : ℕ). x * b) (div-mul-cancel (gcd a b) (gcd-left a b))) in
-    let both : a * b ∣ n * a = subst (λ (x : ℕ). x ∣ n * a) (mul-comm b a) (mul-dvd-mul-right b q a) in
-    let all : a * b ∣ n * g = is-gcd a b .great n (a * b) both (mul-dvd-mul-right a p b) in
-    dvd-of-mul-dvd-mul-right (a / g * b) (gcd-positive a b pos) (subst (λ (x : ℕ). x ∣ n * g) e all)
-
-pub lcm-positive : (a b : ℕ) → 0 < a → 0 < b → 0 < lcm a b
-lcm-positive a b pa pb = pos-of-dvd-of-pos (lcm-least a b (a * b) pa (dvd-mul-right a b) (dvd-mul-left b a)) (mul-pos pa pb)
-
--- ---- row by row
-
-pub lcm-from-nil : (a : ℕ) → lcmFrom a [] ≡ a
-unfolding lcmFrom
-lcm-from-nil a = refl
-
-pub lcm-from-cons : (a : ℕ) (r : Row) (rs : List Row) → lcmFrom a (r ∷ rs) ≡ lcmFrom (lcm a (r .period)) rs
-unfolding lcmFrom
-lcm-from-cons a r rs = refl
-
-pub lcm-from-positive : (a : ℕ) (rs : List Row) → 0 < a → Positive rs → 0 < lcmFrom a rs
-unfolding lcmFrom
-lcm-from-positive a [] pos all = pos
-lcm-from-positive a (r ∷ rs) pos all = lcm-from-positive (lcm a (r .period)) rs (lcm-positive a (r .period) pos (all .0)) (all .1)
-
-pub lcm-from-start : (a : ℕ) (rs : List Row) → a ∣ lcmFrom a rs
-unfolding lcmFrom
-lcm-from-start a [] = dvd-refl a
-lcm-from-start a (r ∷ rs) = dvd-trans a (lcm-left a (r .period)) (lcm-from-start (lcm a (r .period)) rs)
-
-pub lcm-from-rows : (a : ℕ) (rs : List Row) → Divided (lcmFrom a rs) rs
-unfolding lcmFrom
-lcm-from-rows a [] = tt
-lcm-from-rows a (r ∷ rs) = (dvd-trans (r .period) (lcm-right a (r .period)) (lcm-from-start (lcm a (r .period)) rs), lcm-from-rows (lcm a (r .period)) rs)
-
-pub lcm-from-least : (a n : ℕ) (rs : List Row) → 0 < a → Positive rs → a ∣ n → Divided n rs → lcmFrom a rs ∣ n
-unfolding lcmFrom
-lcm-from-least a n [] pos all p d = p
-lcm-from-least a n (r ∷ rs) pos all p d =
-    lcm-from-least (lcm a (r .period)) n rs (lcm-positive a (r .period) pos (all .0)) (all .1) (lcm-least a (r .period) n pos p (d .0)) (d .1)
-
--- A partial multiple above the limit: so is the whole.
-pub lcm-from-le : (a : ℕ) (rs : List Row) → 0 < a → Positive rs → a ≤ lcmFrom a rs
-lcm-from-le a rs pos all = le-of-dvd (lcm-from-positive a rs pos all) (lcm-from-start a rs)
-
--- ---- H
+use borrow.Author.Tests.{lt-ltb}
+use Prim.Native.Nat.{ℕ, _≤_, _<_, _∣_}
+use Rattle.demand.specs.Limits.{ticksMost}
+use Rattle.demand.specs.Multiples.{lcmFrom, capped, Divided}
+use Rattle.demand.specs.Refusals.{tableRefusal}
+use Rattle.demand.specs.Rows.{Row, Positive, tasksOf, handlersOf}
+use Rattle.demand.proofs.Inside.Sizes.{tasks-valid, handlers-positive}
+use Rattle.demand.proofs.Periods.{lcm-from-positive, lcm-from-start, lcm-from-rows, lcm-from-least, lcm-from-le, capped-zero, capped-some}
+use Rattle.demand.proofs.Sums.{each-map, valid-positive}
+use Rattle.verdict.specs.Multiples.{common, LeastMultiple}
 
 pub common-positive : (ts hs : List Row) → Positive ts → Positive hs → 0 < common ts hs
 unfolding common
@@ -189,3 +38,23 @@ common-least ts hs pt ph = record {
   handlers = common-handlers ts hs;
   least = λ n pos dt dh. le-of-dvd pos (period-divides ts hs n pt ph dt dh);
 }
+
+-- ---- H of a table in range, from the tasks' multiple
+
+module _ (t h : List ℕ) (e : tableRefusal t h ≡ 0) where
+  -- The tasks' multiple above the limit: H is too.
+  pub common-over : 0 ≡ capped (lcmFrom 1 (tasksOf t)) → 0 ≡ capped (common (tasksOf t) (handlersOf h))
+  unfolding common
+  common-over none =
+      let some : 0 < lcmFrom 1 (tasksOf t) = lcm-from-positive 1 (tasksOf t) (omega arith) (valid-positive (tasksOf t) (tasks-valid t h e)) in
+      let over : ticksMost < lcmFrom 1 (tasksOf t) = capped-zero (lcmFrom 1 (tasksOf t)) some none in
+      let whole = lcm-from-le (lcmFrom 1 (tasksOf t)) (handlersOf h) some (handlers-positive t h e) in
+      rw (lt-ltb ticksMost (lcmFrom (lcmFrom 1 (tasksOf t)) (handlersOf h)) (omega (arith, whole)))
+
+  module _ (a : ℕ) (some : 0 < a) (ea : a ≡ capped (lcmFrom 1 (tasksOf t))) where
+    pub tasks-multiple : a ≤ ticksMost
+    tasks-multiple = let c = capped-some (lcmFrom 1 (tasksOf t)) a some ea in omega arith
+
+    pub common-read : (r : ℕ) → r ≡ capped (lcmFrom a (handlersOf h)) → r ≡ capped (common (tasksOf t) (handlersOf h))
+    unfolding common
+    common-read r er = er ∙ ap (λ (m : ℕ). capped (lcmFrom m (handlersOf h))) (capped-some (lcmFrom 1 (tasksOf t)) a some ea .0)

@@ -11,7 +11,9 @@ use Rattle.demand.specs.Rows.{Row, tasksOf, handlersOf, total, some}
 use Rattle.demand.proofs.Demands.{called-nil, handled-le-called, passes-or-fails}
 use Rattle.verdict.specs.Cases.{plain, dyeHouse, CaseHolds}
 use Rattle.verdict.specs.Loads.{work, whole, slack, millionths, load}
-use Rattle.verdict.specs.Multiples.{euclid, gcd, lcm, lcmFrom, common}
+use Rattle.euclid.specs.Euclid.{gcd, lcm, euclid}
+use Rattle.demand.specs.Multiples.{lcmFrom}
+use Rattle.verdict.specs.Multiples.{common}
 use Rattle.verdict.specs.Promise.{figures, noOf, verdictRefusal, SaysBy, Says, VerdictSays}
 use Rattle.verdict.proofs.Divisors.{common-tasks}
 use Rattle.verdict.proofs.Promise.{says-unique}

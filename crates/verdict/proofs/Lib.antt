@@ -8,6 +8,5 @@ pub mod Lightening
 pub mod Full
 pub mod Cases
 pub mod DyeHouse
-pub mod Capped
 pub mod Inside
 pub mod Sayings

@@ -12,7 +12,8 @@ use Rattle.demand.proofs.Sums.{valid-positive}
 use Rattle.verdict.specs.Inside.Search.{FoundAt, FoundSays, endBy, searchEnd}
 use Rattle.verdict.specs.Facts.{PassesTo, bound}
 use Rattle.verdict.specs.Loads.{work, whole, costs, slack, millionths, load, workMost}
-use Rattle.verdict.specs.Multiples.{common, capped}
+use Rattle.demand.specs.Multiples.{capped}
+use Rattle.verdict.specs.Multiples.{common}
 use Rattle.verdict.specs.Promise.{figures, yesOf, noOf, refusalOf, verdictRefusal, SaysBy, Says, VerdictSays}
 use Rattle.verdict.specs.declared.Answer.the-variants as answer
 use Rattle.verdict.specs.declared.Miss.{Miss}
@@ -20,7 +21,7 @@ use Rattle.verdict.specs.declared.search.Found.{Found}
 use Rattle.verdict.specs.declared.search.Found.the-variants as found
 use Rattle.verdict.proofs.Divisors.{common-positive}
 use Rattle.verdict.proofs.Facts.Ends.{end-le, end-enough}
-use Rattle.verdict.proofs.Capped.{capped-zero, capped-some}
+use Rattle.demand.proofs.Periods.{capped-zero, capped-some}
 use Rattle.verdict.proofs.Loads.{work-most, costs-most, slack-most}
 use Rattle.verdict.proofs.Readable.{readable-in-range, readable-common, readable-zero, common-small, refused-4, refused-table}
 

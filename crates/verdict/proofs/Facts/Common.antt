@@ -13,7 +13,7 @@ use Rattle.demand.proofs.Demands.{handled-le-called, handled-next}
 use Rattle.demand.proofs.Divide.{le-or-lt}
 use Rattle.demand.proofs.Sums.{valid-positive}
 use Rattle.verdict.specs.Loads.{work, costs, slack}
-use Rattle.verdict.specs.Multiples.{Divided}
+use Rattle.demand.specs.Multiples.{Divided}
 use Rattle.verdict.proofs.Facts.Drain.{Drains}
 use Rattle.verdict.proofs.Loads.{work-cons}
 use Rattle.verdict.proofs.Facts.Shares.{work-le-due, work-sub, called-whole, work-share, due-share, called-share, called-le-work}

@@ -10,7 +10,7 @@ use Rattle.demand.specs.Rows.{Row, Positive, Valid}
 use Rattle.demand.proofs.Demands.{called-nil, called-cons, due-nil, due-cons}
 use Rattle.demand.proofs.Divide.{jobs, le-ceil-mul, div-sub, div-le-jobs, jobs-mul-le}
 use Rattle.verdict.specs.Loads.{work, costs, slack}
-use Rattle.verdict.specs.Multiples.{Divided}
+use Rattle.demand.specs.Multiples.{Divided}
 use Rattle.verdict.proofs.Loads.{work-nil, work-cons, costs-cons, slack-cons}
 
 -- ---- D is at least work

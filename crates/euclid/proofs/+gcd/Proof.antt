@@ -1,16 +1,16 @@
 use mathlib.Core.Path.{sym, ap, _∙_}
 use native.Mathlib.Nat.{mod-lt}
 use native.Mathlib.Omega.{arith}
-use Rattle.verdict.specs.Multiples as euclid
-use Rattle.verdict.proofs.Divisors.{gcd-zero, gcd-next}
+use Rattle.euclid.specs.Euclid as euclid
+use Rattle.euclid.proofs.Divisors.{gcd-zero, gcd-next}
 use Prim.Native.Nat.{ℕ, _<_}
 use borrow.Fn.Kinds.{In}
 use borrow.Fn.PlainCycle.{Measures, is, falls, and}
-use Rattle.verdict.proofs.multiples.gcd.Reads as gcd
-use Rattle.verdict.proofs.multiples.gcd.Kinds as gcd-kinds
-use Rattle.verdict.proofs.multiples.+gcd.Lts-gcd as gcd-lts
-use Rattle.verdict.proofs.multiples.+gcd.{statement}
-use Rattle.verdict.proofs.multiples.+gcd.Tie.{close}
+use Rattle.euclid.proofs.gcd.Reads as gcd
+use Rattle.euclid.proofs.gcd.Kinds as gcd-kinds
+use Rattle.euclid.proofs.+gcd.Lts-gcd as gcd-lts
+use Rattle.euclid.proofs.+gcd.{statement}
+use Rattle.euclid.proofs.+gcd.Tie.{close}
 
 abbrev μ-gcd : Measures 0 gcd-kinds.ps ℕ
 μ-gcd κs a = a .1 .0
