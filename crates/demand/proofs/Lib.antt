@@ -3,6 +3,7 @@ pub mod Sums
 pub mod Taken
 pub mod Demands
 pub mod Between
+pub mod Wholes
 pub mod Periods
 pub mod Lighter
 pub mod Slices

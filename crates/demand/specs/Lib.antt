@@ -9,6 +9,8 @@ pub mod Rows
 pub mod Multiples
 -- A, f, D and the margin
 pub mod Demands
+-- f over whole periods of the handlers (M-102)
+pub mod Wholes
 -- refusals 1, 2, 3, 13 and 5
 pub mod Refusals
 -- what the public calls answer
