@@ -19,7 +19,7 @@ use Rattle.demand.proofs.Chains.{none-first, first-later, first-earlier
 use Rattle.demand.proofs.Slices.{rows-count}
 
 -- Neither of two tests holds.
-neither : (a b : Bool) → (a || b) ≡ false → (a ≡ false) × (b ≡ false)
+pub neither : (a b : Bool) → (a || b) ≡ false → (a ≡ false) × (b ≡ false)
 neither true b e = absurd (let z : _≡_ {A = ℕ} 0 1 = cc in omega arith)
 neither false b e = (refl, e)
 

@@ -1,17 +1,21 @@
 -- f over whole periods (specs/Wholes): with P a common multiple of the handlers' periods, f at any length follows from f within one P.
 use mathlib.Core.List.{List, [], _∷_}
-use mathlib.Core.Path.{_≡_, ap, sym, _∙_}
-use native.Mathlib.Nat.{add-zero, add-suc, mul-add, mul-le-mul-left, le-of-mul-le-mul-left, div-mul-cancel, div-add-mod', add-mul-div-right}
+use mathlib.Core.Bool.{false, _||_}
+use mathlib.Core.Path.{_≡_, ap, sym, subst, _∙_}
+use native.Mathlib.Nat.{pos-of-ne-zero, add-zero, add-suc, mul-add, mul-le-mul-left, le-of-mul-le-mul-left, div-mul-cancel, div-add-mod', add-mul-div-right}
 use native.Mathlib.Omega.{arith}
+use borrow.Author.Tests.{eqb-false, ltb-false}
 use lib.Arith.{digits-div}
+use lib.Dec.{eqb, ltb}
 use Prim.Native.Nat.{ℕ, zero, suc, _+_, _-_, _*_, _/_, _%_, _≤_, _<_, _∣_}
 use Rattle.demand.specs.Demands.{ceil, called, handled}
-use Rattle.demand.specs.Multiples.{Divided}
+use Rattle.demand.specs.Multiples.{capped, Divided}
 use Rattle.demand.specs.Rows.{Row, Positive}
 use Rattle.demand.specs.Wholes.{ownPeriod, TakesAll, CountsWholes}
 use Rattle.demand.proofs.Demands.{called-nil, called-cons, handled-zero, handled-taken, handled-next, handled-le-called, handled-attained}
 use Rattle.demand.proofs.Divide.{le-ceil-mul}
-use Rattle.demand.proofs.Periods.{lcm-from-positive, lcm-from-rows}
+use Rattle.demand.proofs.Periods.{lcm-from-positive, lcm-from-rows, capped-some}
+use Rattle.demand.proofs.Refusals.{neither}
 use Rattle.demand.proofs.Taken.{Attained}
 
 -- ---- one row
@@ -106,3 +110,25 @@ module _ (hs : List Row) (ph : Positive hs) where
 
   pub counts-wholes : CountsWholes hs
   counts-wholes light = handled-divided (ownPeriod hs) own-positive hs ph (lcm-from-rows 1 hs) light
+
+  -- ---- as the code has it: the period and the work in it in hand
+
+  module _ (own l : ℕ) (period : own ≡ capped (ownPeriod hs)) (short : (eqb own 0 || ltb l own) ≡ false) where
+    -- A period that is there and no longer than l is the handlers' own.
+    pub own-read : (own ≡ ownPeriod hs) × (0 < own) × (own ≤ l)
+    own-read =
+        let tests = neither (eqb own 0) (ltb l own) short in
+        let some : 0 < own = pos-of-ne-zero (eqb-false own 0 (tests .0)) in
+        (capped-some (ownPeriod hs) own some period .0, some, ltb-false l own (tests .1))
+
+    module _ (work : ℕ) (called-is : work ≡ called hs own) where
+      pub all-read : own ≤ work → l ≡ handled hs l
+      all-read heavy =
+          let e = own-read .0 in
+          sym (takes-all (subst (λ (p : ℕ). p ≤ called hs p) e (omega (arith, called-is))) l)
+
+      pub wholes-read : work < own → l / own * work + handled hs (l % own) ≡ handled hs l
+      wholes-read light =
+          let e = own-read .0 in
+          let few : called hs (ownPeriod hs) ≤ ownPeriod hs = subst (λ (p : ℕ). called hs p ≤ p) e (omega (arith, called-is)) in
+          rw called-is (subst (λ (p : ℕ). l / p * called hs p + handled hs (l % p) ≡ handled hs l) (sym e) (sym (counts-wholes few l)))

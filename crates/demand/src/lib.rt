@@ -78,8 +78,24 @@ pub fn margin(tasks: &[u32], handlers: &[u32], l: u64) -> MarginAnswer
     }
 }
 
-// f at l, along the arrivals up to it.
+// f at l: whole periods of the handlers are counted, and only the rest is walked. A period above the limit is longer than l.
 fn handled(handlers: &[u32], l: u64) -> u64
+    requires { ⌜ Small (handlersOf (now handlers)) l × (length (handlersOf (now handlers)) ≤ handlersMost) ⌝ }
+    ensures { λ r. ⌜ r ≡ handled (handlersOf (now (handlers .entry))) l ⌝ }
+{
+    let own = multiples::of_rows(Kind::Handler, handlers, 1);
+    if (own == 0) | (l < own) {
+        return walked(handlers, l);
+    }
+    let work = rows::called(Kind::Handler, handlers, own);
+    if own <= work {
+        return l;
+    }
+    l / own * work + walked(handlers, l % own)
+}
+
+// f at l, along the arrivals up to it.
+fn walked(handlers: &[u32], l: u64) -> u64
     requires { ⌜ Small (handlersOf (now handlers)) l × (length (handlersOf (now handlers)) ≤ handlersMost) ⌝ }
     ensures { λ r. ⌜ r ≡ handled (handlersOf (now (handlers .entry))) l ⌝ }
 {

@@ -1,9 +1,9 @@
-// D over the rows of a lent list, which hands the list behind its first row on to itself.
+// A and D over the rows of a lent list, each handing the list behind its first row on to itself.
 ghost use mathlib.Core.Path.{_≡_};
 ghost use Prim.Native.Nat.{_<_, _≤_};
-ghost use Rattle.demand.specs.Demands.{within, due};
+ghost use Rattle.demand.specs.Demands.{called, within, due};
 ghost use Rattle.demand.specs.Limits.{ticksMost};
-ghost use Rattle.demand.specs.Rows.{tasksOf};
+ghost use Rattle.demand.specs.Rows.{rowsOf, tasksOf};
 ghost use Rattle.demand.specs.Inside.Sizes.{Small};
 use crate::table::Kind;
 use crate::table::head;
@@ -33,4 +33,18 @@ pub fn due(tasks: &[u32], l: u64) -> u64
     let task = head(Kind::Task, tasks);
     let rest = due(&tasks[own..], l);
     task.cost * jobs(l, task.deadline, task.period) + rest
+}
+
+// A of either kind: the work that the rows of s are called for within l ticks.
+pub fn called(kind: Kind, s: &[u32], l: u64) -> u64
+    requires { ⌜ Small (rowsOf kind (now s)) l ⌝ }
+    ensures { λ r. ⌜ r ≡ called (rowsOf kind (now (s .entry))) l ⌝ }
+{
+    let own = width(kind);
+    if s.len() < own {
+        return 0;
+    }
+    let row = head(kind, s);
+    let rest = called(kind, &s[own..], l);
+    row.cost * ((l + (row.period - 1)) / row.period) + rest
 }
