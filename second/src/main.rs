@@ -70,6 +70,38 @@ fn ask(table: &Table, l: u64, counts: &mut Counts) {
     counts.questions += 1;
 }
 
+/// f around whole periods of a few handlers, whose work in one is below its ticks, as many, or above.
+fn ask_wholes(random: &mut Random, counts: &mut Counts) {
+    let mut handlers = vec![];
+    for _ in 0..random.from_to(1, 3) {
+        let period = random.from_to(1, 12) as u32;
+        let cost = random.from_to(1, period as u64 / 2 + 1) as u32;
+        handlers.extend([cost, period]);
+    }
+    let table = Table { tasks: vec![1, 1_000, 1_000], handlers };
+    let periods = |l: &u64| table.handlers.chunks_exact(2).all(|r| l % r[1] as u64 == 0);
+    let own = (1..).find(periods).unwrap();
+    for near in [0, own, own * random.from_to(1, PATIENCE as u64 / own)] {
+        for l in [near.saturating_sub(1), near, near + 1] {
+            if l as u128 <= PATIENCE {
+                ask(&table, l, counts);
+            }
+        }
+    }
+}
+
+/// f at the limit, tick by tick.
+fn ask_limit(counts: &mut Counts) {
+    let handlers = vec![2, 6, 1, 4];
+    let want = [0, model::handled(&model::handlers_of(&handlers), model::LIMIT) as u64];
+    let table = Table { tasks: vec![1, 1_000, 1_000], handlers };
+    let got = proved::handler_demand(&table.tasks, &table.handlers, model::LIMIT as u64);
+    if got != want {
+        differ("handler demand at the limit", &table, format!("{got:?}"), format!("{want:?}"));
+    }
+    counts.questions += 1;
+}
+
 fn judge(table: &Table, counts: &mut Counts) {
     counts.tables += 1;
     let Ok(want) = model::verdict(&table.tasks, &table.handlers, PATIENCE) else { return };
@@ -161,6 +193,10 @@ fn main() {
             ask(&table, l, &mut counts);
             run_all(&mut random, &table, &mut steps);
         }
+        ask_wholes(&mut random, &mut counts);
+    }
+    if seed == 1 {
+        ask_limit(&mut counts);
     }
     println!(
         "seed {seed}: {} tables, {} verdicts compared ({} fits, {} misses, {} refused; {} with short deadlines), {} questions compared, 0 differences",

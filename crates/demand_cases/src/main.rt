@@ -85,6 +85,30 @@ fn ends() {
     );
 }
 
+// f around whole periods of the handlers and at the limit (M-102): their work in a period below its ticks, as many, and above.
+fn whole_periods() {
+    ask(b"2 of 6 and 1 of 4", &[1, 12, 12], &[2, 6, 1, 4], 11);
+    ask(b"2 of 6 and 1 of 4", &[1, 12, 12], &[2, 6, 1, 4], 12);
+    ask(b"2 of 6 and 1 of 4", &[1, 12, 12], &[2, 6, 1, 4], 13);
+    ask(b"2 of 6 and 1 of 4", &[1, 12, 12], &[2, 6, 1, 4], 999999999);
+    ask(
+        b"2 of 6 and 1 of 4",
+        &[1, 12, 12],
+        &[2, 6, 1, 4],
+        1000000000,
+    );
+    ask(b"1 of 2", &[1, 2, 2], &[1, 2], 1000000000);
+    ask(b"1 of 2 and 2 of 4", &[1, 2, 2], &[1, 2, 2, 4], 1000000000);
+    ask(b"1 of 2 and 3 of 4", &[1, 2, 2], &[1, 2, 3, 4], 999999999);
+    ask(b"3 of 1000000", &[1, 2, 2], &[3, 1000000], 999000001);
+    ask(
+        b"multiple above the limit",
+        &[1, 2, 2],
+        &[1, 999983, 5, 999979],
+        2000000,
+    );
+}
+
 // Counts that are refused, and those beside them that are not.
 fn counts() {
     ask(b"tasks not in threes", &[2, 5, 5, 4], &[1, 4], 10);
@@ -120,6 +144,7 @@ fn main() {
     cases();
     short_deadlines();
     ends();
+    whole_periods();
     counts();
     figures();
     orders();
