@@ -122,6 +122,13 @@ static void fill(uint32_t *t, size_t nt, const uint32_t *h, size_t nh) {
     t[nt - 3] = (uint32_t)((H - work(H, t, nt - 3, 3) - work(H, h, nh, 2)) / (H / t[nt - 2]));
 }
 
+/* 63 tasks 1/64 with deadlines 2 to 64 and one of 14,998/960,832; a handler 1/64,064: each event moves behind 62 others. */
+static void densest(uint32_t *t, uint32_t *h) {
+    for (uint32_t i = 0; i < 63; i++) t[3 * i] = 1, t[3 * i + 1] = 64, t[3 * i + 2] = 2 + i;
+    t[189] = 14998, t[190] = t[191] = 960832;
+    h[0] = 1, h[1] = 64064;
+}
+
 /* 48 tasks 1/64 with deadlines 17 to 64, a/p and b/q, and 8 handlers 1/960. */
 static void dense(uint32_t *t, uint32_t *h, uint32_t a, uint32_t p, uint32_t b, uint32_t q) {
     for (uint32_t i = 0; i < 48; i++) t[3 * i] = 1, t[3 * i + 1] = 64, t[3 * i + 2] = 17 + i;
@@ -159,6 +166,8 @@ static void whole(void) {
     /* periods 2 and twice the pairwise products of the primes 683, 691 and 701: H = 661,678,106 */
     uint32_t t[] = {1, 2, 2, 373279, 943906, 943905, 100101, 957566, 957566, 1, 968782, 968782}, h[] = {1, 968782};
     heading();
+    densest(many, few);
+    compare("63 of 1/64, 1 handler, W = H - 2", many, 192, few, 2, 1, 1, 0);
     dense(many, few, 118318, 979200, 118438, 980160);
     compare("48 of 1/64, 8 handlers, W = H - 2", many, 150, few, 16, 1, 1, 0);
     compare("period 2 and products of primes, W = H", t, 12, h, 0, 1, 1, 0);
