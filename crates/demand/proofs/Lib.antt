@@ -6,8 +6,6 @@ pub mod Between
 pub mod Wholes
 pub mod Periods
 pub mod Lighter
-pub mod Slices
-pub mod Places
 pub mod Chains
 pub mod Refusals
 pub mod Signs

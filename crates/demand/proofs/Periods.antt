@@ -18,7 +18,7 @@ use Rattle.demand.specs.Rows.{Row, rowsOf, width, Each, Positive, rest}
 use Rattle.demand.specs.Tests.{pick}
 use Rattle.demand.specs.declared.table.Kind.{Kind}
 use Rattle.demand.proofs.Inside.Sizes.{fair-positive}
-use Rattle.demand.proofs.Slices.{rows-short, from, from-width, each-head}
+use Rattle.demand.proofs.Inside.Slices.{rows-short, from, from-width, each-head}
 
 -- ---- row by row
 

@@ -16,7 +16,7 @@ use Rattle.demand.specs.Tests.{pick, firstRefusal, NoneHolds}
 use Rattle.demand.specs.declared.table.Kind.{Kind}
 use Rattle.demand.specs.declared.table.Kind.the-variants.{Task, Handler}
 use Rattle.demand.proofs.Chains.{none-first, first-later, first-earlier}
-use Rattle.demand.proofs.Slices.{rows-count}
+use Rattle.demand.proofs.Inside.Slices.{rows-count}
 
 -- Neither of two tests holds.
 pub neither : (a b : Bool) → (a || b) ≡ false → (a ≡ false) × (b ≡ false)

@@ -19,7 +19,7 @@ use Rattle.demand.specs.declared.table.Kind.{Kind}
 use Rattle.demand.proofs.Between.{plain-valid}
 use Rattle.demand.proofs.Divide.{events-within, events-ceil}
 use Rattle.demand.proofs.Inside.Sizes.{fair-positive, due-most, called-most}
-use Rattle.demand.proofs.Slices.{from, from-zero, from-rest, from-length, rows-short, handlers-plain}
+use Rattle.demand.proofs.Inside.Slices.{from, from-zero, from-rest, from-length, rows-short, handlers-plain}
 use Rattle.demand.proofs.Sums.{each-map, total-nil, total-cons, total-same}
 
 -- ---- what the events bring

@@ -9,8 +9,8 @@ use Prim.Native.Nat.{ℕ, _+_, _-_, _*_, _≤_, _<_}
 use lib.ListN.{length, take}
 use lib.Seq.{length-take-le, getD-take}
 use Rattle.demand.specs.Limits.{tasksMost}
-use Rattle.demand.proofs.Places.{rows-take, each-at}
-use Rattle.demand.proofs.Slices.{rows-count, handlers-plain}
+use Rattle.demand.proofs.Inside.Places.{rows-take, each-at}
+use Rattle.demand.proofs.Inside.Slices.{rows-count, handlers-plain}
 use Rattle.demand.specs.Rows.{Row, tasksOf, handlersOf, rowsOf, width, rowAt, noRow}
 use Rattle.demand.specs.declared.table.Kind.{Kind}
 use Rattle.demand.specs.declared.table.Kind.the-variants.{Task, Handler}

@@ -10,7 +10,7 @@ use lib.Dec.{ltb, eqb}
 use lib.ListN.{length, getD, drop, replicate, length-append, length-replicate, getD-replicate, List·getD-append, List·getD-eq-default}
 use lib.Seq.{drop-at}
 use Rattle.demand.proofs.Divide.{le-or-lt}
-use Rattle.demand.proofs.Places.{rows-append, each-at}
+use Rattle.demand.proofs.Inside.Places.{rows-append, each-at}
 use Rattle.demand.proofs.Refusals.{row-inside, deadline-inside}
 use Rattle.demand.specs.Limits.{tasksMost, handlersMost}
 use Rattle.demand.specs.Refusals.{tableRefusal, FairRow}

@@ -9,9 +9,9 @@ use native.Mathlib.Omega.{arith}
 use Prim.Native.Nat.{ℕ, _+_, _-_, _*_, _≤_, _<_}
 use lib.ListN.{length, getD, take, drop}
 use lib.Seq.{getD-drop}
-use Rattle.demand.proofs.Places.{rows-drop}
+use Rattle.demand.proofs.Inside.Places.{rows-drop}
 use Rattle.demand.proofs.Refusals.{fair-row, sound-row}
-use Rattle.demand.proofs.Slices.{width-most, from-is}
+use Rattle.demand.proofs.Inside.Slices.{width-most, from-is}
 use Rattle.demand.specs.Limits.{figureMost, tasksMost, ticksMost}
 use Rattle.demand.specs.Refusals.{FairRow}
 use Rattle.demand.specs.Rows.{Row, rowsOf, width, rowAt, noRow, Sound}

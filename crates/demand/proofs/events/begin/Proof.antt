@@ -3,7 +3,7 @@ use Prim.Native.Nat.{_-_}
 use lib.ListN.{length}
 use Rattle.demand.specs.Rows.{rowOf}
 use Rattle.demand.proofs.Inside.Events.{Beginning, begin-start, begin-can, begin-turn, begin-end}
-use Rattle.demand.proofs.Slices.{width-least, width-most, from-length}
+use Rattle.demand.proofs.Inside.Slices.{width-least, width-most, from-length}
 use Rattle.demand.proofs.events.begin.Statement.{statement}
 use Rattle.demand.proofs.events.begin.Tie as tie
 

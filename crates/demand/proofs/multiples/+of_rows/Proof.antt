@@ -2,7 +2,7 @@ use mathlib.Core.Path.{refl}
 use lib.ListN.{length}
 use native.Mathlib.Omega.{arith}
 use Rattle.demand.specs.Refusals.{FairRow}
-use Rattle.demand.proofs.Slices.{part-shorter, each-head}
+use Rattle.demand.proofs.Inside.Slices.{part-shorter, each-head}
 use Rattle.euclid.proofs.Divisors.{gcd-positive, lcm-positive}
 use Rattle.demand.proofs.Periods.{lcm-short, lcm-over, lcm-head, lcm-read, lcm-fits}
 use Prim.Native.Nat.{ℕ, _<_}

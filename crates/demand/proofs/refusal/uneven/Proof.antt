@@ -1,5 +1,5 @@
 use native.Mathlib.Omega.{arith}
-use Rattle.demand.proofs.Slices.{width-least}
+use Rattle.demand.proofs.Inside.Slices.{width-least}
 use borrow.Author.Needs.{needs}
 use Rattle.demand.proofs.refusal.uneven.Statement.{statement}
 use Rattle.demand.proofs.refusal.uneven.Tie as tie

@@ -4,7 +4,7 @@ use native.Mathlib.Omega.{arith}
 use Rattle.demand.specs.Demands.{calledBy, called}
 use Rattle.demand.specs.Rows.{rowOf}
 use Rattle.demand.proofs.Inside.Sizes.{called-by-most, called-most}
-use Rattle.demand.proofs.Slices.{part-shorter, total-short, total-head, fair-head, small-part}
+use Rattle.demand.proofs.Inside.Slices.{part-shorter, total-short, total-head, fair-head, small-part}
 use Prim.Native.Nat.{ℕ, _<_}
 use borrow.Fn.Kinds.{In}
 use borrow.Fn.PlainCycle.{Measures, is, falls, and}

@@ -5,7 +5,7 @@ use Rattle.demand.specs.Demands.{dueBy, due}
 use Rattle.demand.specs.Rows.{rowOf}
 use Rattle.demand.specs.declared.table.Kind.the-variants.{Task}
 use Rattle.demand.proofs.Inside.Sizes.{due-by-most, due-most}
-use Rattle.demand.proofs.Slices.{part-shorter, total-short, total-head, fair-head, small-part}
+use Rattle.demand.proofs.Inside.Slices.{part-shorter, total-short, total-head, fair-head, small-part}
 use Prim.Native.Nat.{ℕ, _<_}
 use borrow.Fn.Kinds.{In}
 use borrow.Fn.PlainCycle.{Measures, is, falls, and}

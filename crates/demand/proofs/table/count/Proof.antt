@@ -1,6 +1,6 @@
 use mathlib.Core.Path.{sym}
 use native.Mathlib.Omega.{arith}
-use Rattle.demand.proofs.Slices.{width-least, rows-count}
+use Rattle.demand.proofs.Inside.Slices.{width-least, rows-count}
 use borrow.Author.Needs.{needs}
 use Rattle.demand.proofs.table.count.Statement.{statement}
 use Rattle.demand.proofs.table.count.Tie as tie

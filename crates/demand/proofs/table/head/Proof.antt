@@ -2,7 +2,7 @@ use mathlib.Core.Path.{ap, _∙_}
 use lib.ListN.{getD}
 use Prim.Native.Nat.{ℕ, _-_}
 use native.Mathlib.Omega.{arith}
-use Rattle.demand.proofs.Slices.{width-least, head-read}
+use Rattle.demand.proofs.Inside.Slices.{width-least, head-read}
 use borrow.Author.Needs.{needs}
 use Rattle.demand.proofs.table.head.Statement.{statement}
 use Rattle.demand.proofs.table.head.Tie as tie

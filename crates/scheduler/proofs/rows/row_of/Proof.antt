@@ -1,6 +1,6 @@
 use native.Mathlib.Omega.{arith}
 use borrow.Author.Needs.{needs}
-use Rattle.demand.proofs.Slices.{from-length}
+use Rattle.demand.proofs.Inside.Slices.{from-length}
 use Rattle.scheduler.proofs.Steps.RowPlaces.{numbers-fit, row-read}
 use Rattle.scheduler.proofs.rows.row_of.Statement.{statement}
 use Rattle.scheduler.proofs.rows.row_of.Tie as tie

@@ -3,7 +3,7 @@ use lib.ListN.{length}
 use native.Mathlib.Omega.{arith}
 use Rattle.demand.specs.Rows.{handlersOf}
 use Rattle.demand.specs.declared.table.Kind.the-variants.{Handler}
-use Rattle.demand.proofs.Slices.{part-shorter, total-short, total-head, small-part}
+use Rattle.demand.proofs.Inside.Slices.{part-shorter, total-short, total-head, small-part}
 use Rattle.verdict.specs.Loads.{costs}
 use Rattle.verdict.proofs.Loads.{costs-most}
 use Prim.Native.Nat.{ℕ, _<_}

@@ -3,7 +3,7 @@ use lib.ListN.{length}
 use native.Mathlib.Omega.{arith}
 use Rattle.demand.specs.Rows.{Sound, tasksOf, rowOf}
 use Rattle.demand.specs.declared.table.Kind.the-variants.{Task}
-use Rattle.demand.proofs.Slices.{part-shorter, total-short, total-head, each-head, fair-head, small-part}
+use Rattle.demand.proofs.Inside.Slices.{part-shorter, total-short, total-head, each-head, fair-head, small-part}
 use Rattle.verdict.specs.Loads.{slackBy, slack}
 use Rattle.verdict.proofs.Loads.{work-by-most, slack-by-most, slack-most}
 use Prim.Native.Nat.{ℕ, _<_}

@@ -2,7 +2,7 @@ use mathlib.Core.Path.{sym}
 use lib.ListN.{length}
 use native.Mathlib.Omega.{arith}
 use Rattle.demand.specs.Rows.{rowsOf}
-use Rattle.demand.proofs.Slices.{part-shorter, total-short, total-head, fair-head, small-part}
+use Rattle.demand.proofs.Inside.Slices.{part-shorter, total-short, total-head, fair-head, small-part}
 use Rattle.verdict.specs.Loads.{workBy, work}
 use Rattle.verdict.proofs.Loads.{work-by-most, work-most}
 use Prim.Native.Nat.{ℕ, _<_}
