@@ -4,12 +4,15 @@
 --   events x n p        == how many of n, n + p, n + 2p, .. are at most x
 --   toCome q x          == the work of the events of q up to tick x
 --   passed e            == the entry e behind its next event
+--   joined e f          == one entry for e and f, which have the same events
 --   insert e q          == the queue q with the entry e in its place by next event
 --   Entries P q         P holds of every entry of q
 --   Ahead n q           every event of q comes above n
 --   Ordered q           each entry's next event is no later than those behind it
 --   Queue q             fair entries in order
+--   CanTake q sum       there is an event to take, and the sum has room for its tick's work
 --   Taken n q sum r s   the queue q with sum carried has become r with s: the same work at every tick from n on, all of r's above n
+--   CanAdd e k q        e may be added to the entries from place k on of q
 --   Added e k q j r     the entries from place k on of q, and e, have become those from place j on of r
 use mathlib.Core.Bool.{cond}
 use mathlib.Core.List.{List, [], _∷_}
@@ -37,7 +40,6 @@ period e = getD e 2 0
 abbrev pub passed : Entry → Entry
 passed e = (next e + period e) ∷ cost e ∷ period e ∷ []
 
--- one entry for two that have the same events
 abbrev pub joined : Entry → Entry → Entry
 joined e f = next e ∷ (cost f + cost e) ∷ period e ∷ []
 
@@ -75,7 +77,6 @@ pub record Queue (q : List Entry) : Type 0 where
 
 -- ---- taking
 
--- There is an event, and what it adds to fits a word.
 pub record CanTake (q : List Entry) (sum : ℕ) : Type 0 where
   pub queue : Queue q
   pub some : 1 ≤ length q
@@ -96,7 +97,7 @@ pub record Twin (q : List Entry) (k : ℕ) (e : Entry) (i : ℕ) : Type 0 where
   pub fits : i ≤ length q
   pub alike : i < length q → (next (getD q i []) ≡ next e) × (period (getD q i []) ≡ period e)
 
--- A place is free, and the work of the entries at the tick of e fits a word.
+-- A place is free, and the work up to the tick of e fits a word.
 pub record CanAdd (e : Entry) (k : ℕ) (q : List Entry) : Type 0 where
   pub room : 1 ≤ k
   pub within : k ≤ length q

@@ -1,4 +1,4 @@
--- f along the arrivals of handlers.
+-- f along the arrivals of handlers (01, "The two demands").
 --   outset           == how far handlers have come before the first tick
 --   waited p m       == how far from p, at tick m, where nothing arrives up to m
 --   Follows a q p    a x is the work called for by tick x: p stands at f of it, and beyond p it goes on as the events of q

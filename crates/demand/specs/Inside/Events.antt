@@ -1,7 +1,7 @@
 -- The rows of a table as events. D is the work of the deadlines d, d + p, .., A that of the arrivals, which count from ticks 1, 1 + p, ..
 -- (01, "The two demands"); the same of tasks' arrivals is what 02, M-105, adds up.
 --   firstOf event d      == the tick of a row's first event, where its deadline is d
---   workOf event rs x    == the work of the events of rows rs up to tick x
+--   workOf event rs x    == the work of the events of rows rs up to tick x; workBy is that of one row
 --   Placeable rs n       rows in range, for which n places are enough
 --   Begun event rs q     q holds the events of rows rs, all of them to come
 use mathlib.Core.List.{List}
