@@ -6,9 +6,9 @@
    changed but `out`, which must not overlap the lists.
    Nothing is kept between calls, so that any number of threads may call at once, each with its own `out`; no memory is asked for, and a few
    kilobytes of stack are enough.
-   Running time: microseconds to milliseconds for a usual table. A verdict goes through the deadlines of tasks up to H, a demand and a margin
-   through the arrivals of handlers up to l, so that seconds to minutes pass where H or l is near its limit and a period is short (the worst
-   verdict measured: 7 min 48 s). A call cannot be interrupted.
+   Running time: microseconds to milliseconds for a usual table. A verdict goes through the deadlines of tasks and the arrivals of handlers
+   up to H; a demand and a margin through the arrivals within one common period of the handlers, or up to l where that is longer. So seconds
+   pass, and in the worst tables about a minute, where H or l is near its limit and a period is short. A call cannot be interrupted.
    Link with libcowriedash.a, which is for Linux on x86-64 (README.md says how it is made). */
 #ifndef COWRIEDASH_H
 #define COWRIEDASH_H
