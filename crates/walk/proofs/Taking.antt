@@ -62,3 +62,8 @@ module _ (n : ℕ) (q : List Entry) (sum : ℕ) (r : List Entry) (s : ℕ) (so-f
   -- No event up to n is left.
   pub taking-end : n < next (head r) → Taken n q sum r s
   taking-end h = record { same = so-far .same; queue = so-far .queue; long = so-far .long; ahead = head-ahead r n (so-far .queue) h }
+
+-- Where there is nothing to take.
+pub taken-none : (n : ℕ) (q : List Entry) (sum : ℕ) → length q ≡ 0 → Taken n q sum q sum
+taken-none n [] sum none = record { same = λ x h. refl; queue = record { fair = tt; ordered = tt }; long = refl; ahead = tt }
+taken-none n (e ∷ q) sum none = absurd (omega arith)

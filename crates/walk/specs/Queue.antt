@@ -10,6 +10,7 @@
 --   Ahead n q           every event of q comes above n
 --   Ordered q           each entry's next event is no later than those behind it
 --   Queue q             fair entries in order
+--   CanTakeTo n q sum   the sum has room for the work up to tick n
 --   CanTake q sum       there is an event to take, and the sum has room for its tick's work
 --   Taken n q sum r s   the queue q with sum carried has become r with s: the same work at every tick from n on, all of r's above n
 --   CanAdd e k q        e may be added to the entries from place k on of q
@@ -76,6 +77,11 @@ pub record Queue (q : List Entry) : Type 0 where
   pub ordered : Ordered q
 
 -- ---- taking
+
+pub record CanTakeTo (n : ℕ) (q : List Entry) (sum : ℕ) : Type 0 where
+  pub queue : Queue q
+  pub early : n < 2 ^ 63
+  pub fits : sum + toCome q n < 2 ^ 64
 
 pub record CanTake (q : List Entry) (sum : ℕ) : Type 0 where
   pub queue : Queue q

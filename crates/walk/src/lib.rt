@@ -4,7 +4,7 @@ ghost use mathlib.Core.List.{_++_};
 ghost use mathlib.Core.Path.{_≡_};
 ghost use Prim.Native.Nat.{_+_, _<_, _≤_};
 ghost use lib.ListN.{length, take, drop};
-ghost use Rattle.walk.specs.Queue.{head, next, insert, Twin, CanTake, Taken, CanAdd, Added};
+ghost use Rattle.walk.specs.Queue.{head, next, insert, Twin, CanTakeTo, CanTake, Taken, CanAdd, Added};
 
 // Moves the entries behind place k up until e stands in its place.
 fn settle(q: &mut [[u64; 3]], k: usize, e: [u64; 3])
@@ -25,12 +25,14 @@ fn settle(q: &mut [[u64; 3]], k: usize, e: [u64; 3])
     q[i] = e;
 }
 
-// Takes every event of the first one's tick; the answer is the sum carried with their costs.
-pub fn take(q: &mut [[u64; 3]], sum: u64) -> u64
-    requires { ⌜ CanTake (now q) sum ⌝ }
-    ensures { λ r. ⌜ Taken (next (head (now (q .entry)))) (now (q .entry)) sum (now (q .exit)) r ⌝ }
+// Takes every event up to tick n; the answer is the sum carried with their costs.
+pub fn take_to(q: &mut [[u64; 3]], sum: u64, n: u64) -> u64
+    requires { ⌜ CanTakeTo n (now q) sum ⌝ }
+    ensures { λ r. ⌜ Taken n (now (q .entry)) sum (now (q .exit)) r ⌝ }
 {
-    let n = q[0][0];
+    if q.len() == 0 {
+        return sum;
+    }
     let mut s = sum;
     while q[0][0] <= n {
         let e = q[0];
@@ -38,6 +40,15 @@ pub fn take(q: &mut [[u64; 3]], sum: u64) -> u64
         s += e[1];
     }
     s
+}
+
+// Takes every event of the first one's tick; the answer is the sum carried with their costs.
+pub fn take(q: &mut [[u64; 3]], sum: u64) -> u64
+    requires { ⌜ CanTake (now q) sum ⌝ }
+    ensures { λ r. ⌜ Taken (next (head (now (q .entry)))) (now (q .entry)) sum (now (q .exit)) r ⌝ }
+{
+    let n = q[0][0];
+    take_to(q, sum, n)
 }
 
 // The first place from k on of an entry with the events of e, or the end.
