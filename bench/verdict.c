@@ -32,7 +32,7 @@ static int deadline_outside(const uint32_t *t, size_t n) {
     return 0;
 }
 
-typedef void search(const uint32_t *t, size_t nt, const uint32_t *h, size_t nh, uint64_t end, uint64_t out[6]);
+typedef uint64_t search(const uint32_t *t, size_t nt, const uint32_t *h, size_t nh, uint64_t end, int looks, uint64_t out[6]);
 
 static uint64_t common(const uint32_t *t, size_t nt, const uint32_t *h, size_t nh) {
     uint64_t H = 1;
@@ -47,11 +47,11 @@ static uint64_t work(uint64_t H, const uint32_t *s, size_t n, size_t width) {
     return W;
 }
 
-/* How far the last search went: to the shortest interval that fails, or to its end. */
+/* How far the last search went: to the shortest interval that fails, to the idle point or to its end. */
 static uint64_t reached;
 
-/* The six numbers of the verdict. */
-static void plain(search *walk, const uint32_t *t, size_t nt, const uint32_t *h, size_t nh, uint64_t out[6]) {
+/* The six numbers of the verdict; `looks` as 1 ends the search at the idle point too. */
+static void plain(search *walk, const uint32_t *t, size_t nt, const uint32_t *h, size_t nh, int looks, uint64_t out[6]) {
     uint64_t H, W, B = 0, end;
     if (nt % 3 || nh % 2 || nt == 0 || 192 < nt || 32 < nh) return;
     if (outside(t, nt, 3) || outside(h, nh, 2) || deadline_outside(t, nt)) return;
@@ -63,8 +63,7 @@ static void plain(search *walk, const uint32_t *t, size_t nt, const uint32_t *h,
     out[5] = 1000000 * (W / H) + (1000000 * (W % H) + (H - 1)) / H;
     end = H < W ? H : B == 0 ? 0 : W == H ? H : (B - 1) / (H - W);
     if (H < end) end = H;
-    walk(t, nt, h, nh, end, out);
-    reached = out[0] ? out[2] : end;
+    reached = walk(t, nt, h, nh, end, looks && W < H, out);
 }
 
 static double now(void) {
@@ -83,21 +82,45 @@ static void row(const char *name, const char *word, const double best[3], int sa
 /* In turn, and the best of each, of `calls` calls a turn: what else runs on the machine slows all three. Without `old` the old walk is left
    out: it would take minutes. */
 static void compare(const char *name, const uint32_t *t, size_t nt, const uint32_t *h, size_t nh, int turns, int calls, int old) {
-    uint64_t ours[6], theirs[6], before[6];
+    uint64_t ours[6], theirs[6], before[6], upto;
     double best[3] = {1e9, 1e9, 1e9};
     for (int turn = 0; turn < turns; turn++) {
         double a = now();
         for (int i = 0; i < calls; i++) cowriedash_verdict(t, nt, h, nh, ours);
         double b = now();
-        for (int i = 0; i < calls; i++) plain(carried, t, nt, h, nh, theirs);
+        for (int i = 0; i < calls; i++) plain(carried, t, nt, h, nh, 1, theirs);
         double c = now();
-        for (int i = 0; old && i < calls; i++) plain(divided, t, nt, h, nh, before);
+        upto = reached;
+        for (int i = 0; old && i < calls; i++) plain(divided, t, nt, h, nh, 0, before);
         double d = now();
+        reached = upto;
         if (b - a < best[0] * calls) best[0] = (b - a) / calls;
         if (c - b < best[1] * calls) best[1] = (c - b) / calls;
         if (old && d - c < best[2] * calls) best[2] = (d - c) / calls;
     }
     row(name, ours[0] ? "misses" : "fits", best, !memcmp(ours, theirs, sizeof ours) && (!old || !memcmp(ours, before, sizeof ours)));
+}
+
+/* A table with W below H: the lengths tested up to the end that the facts allow, and up to the idle point; then cowriedash beside the C that
+   does not look for it. */
+static void drain(const char *name, const uint32_t *t, size_t nt, const uint32_t *h, size_t nh, int turns, int calls) {
+    uint64_t ours[6], theirs[6], far, all, near, few;
+    double best[2] = {1e9, 1e9};
+    for (int turn = 0; turn < turns; turn++) {
+        double a = now();
+        for (int i = 0; i < calls; i++) cowriedash_verdict(t, nt, h, nh, ours);
+        double b = now();
+        for (int i = 0; i < calls; i++) plain(carried, t, nt, h, nh, 0, theirs);
+        double c = now();
+        if (b - a < best[0] * calls) best[0] = (b - a) / calls;
+        if (c - b < best[1] * calls) best[1] = (c - b) / calls;
+    }
+    far = reached, all = tested;
+    plain(carried, t, nt, h, nh, 1, theirs);
+    near = reached, few = tested;
+    printf("%-42s %11" PRIu64 " %11" PRIu64 " %11" PRIu64 " %11" PRIu64 " %11.4f ms %11.4f ms %7.3f%s\n", name, far, all, near, few, best[0] * 1e3,
+           best[1] * 1e3, best[0] / best[1], memcmp(ours, theirs, sizeof ours) ? "   DIFFERENT ANSWERS" : "");
+    fflush(stdout);
 }
 
 static void ask(const char *name, const uint32_t *h, size_t nh, uint64_t l) {
@@ -154,6 +177,16 @@ static void beside(uint32_t *t, uint32_t *h) {
     t[190] = t[191] = 1000000;
     h[0] = 1, h[1] = 1000000;
     fill(t, 192, h, 2);
+}
+
+/* 64 tasks whose periods are the greatest divisors of 720,720, no two alike; a handler of that period too. A tick is left in H. */
+static void unlike(uint32_t *t, uint32_t *h) {
+    size_t n = 0;
+    for (uint32_t p = 4620; p <= 720720; p++)
+        if (720720 % p == 0) t[n] = 100, t[n + 1] = t[n + 2] = p, n += 3;
+    h[0] = 1, h[1] = 720720;
+    fill(t, n, h, 2);
+    t[n - 3]--;
 }
 
 static void heading(void) {
@@ -226,6 +259,22 @@ int main(int argc, char **argv) {
     {
         uint32_t h[] = {1, 20, 2, 50, 5, 333, 7, 1000};
         ask("f at 1,000,000,000, four handlers", h, 8, 1000000000);
+    }
+    printf("\n%-42s %11s %11s %11s %11s %14s %14s %7s\n", "W below H, the idle point", "end", "lengths", "idle point", "lengths", "cowriedash",
+           "C, to the end", "ratio");
+    {
+        uint32_t t[] = {300, 1000, 1000, 300, 999, 999}, h[] = {390, 1001};
+        drain("H near its limit, load 990,000", t, 6, h, 2, 20, 200);
+        t[0] = 309;
+        drain("the same, load 999,000", t, 6, h, 2, 20, 20);
+    }
+    unlike(many, few);
+    drain("64 different periods, W = H - 1", many, 192, few, 2, 20, 20);
+    dense(many, few, 3594, 29760, 3714, 30720);
+    drain("48 of 1/64, 8 handlers, W = H - 2", many, 150, few, 16, 2, 1);
+    {
+        uint32_t t[] = {499998, 1000000, 1000000}, h[] = {1, 2, 1, 1000000};
+        drain("handler at every second tick, W = H - 1", t, 3, h, 4, 2, 1);
     }
     return 0;
 }

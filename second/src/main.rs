@@ -5,6 +5,7 @@
 //!                                      to PATIENCE fails and that settles nothing, `patience PATIENCE LENGTH`: how far it would have to go
 
 mod files;
+mod idle;
 mod model;
 mod proved;
 mod random;
@@ -20,6 +21,9 @@ use tables::Table;
 /// How far a blind search goes.
 const PATIENCE: u128 = 20_000;
 
+/// How far the idle point is looked for: each length is asked anew.
+const IDLE_PATIENCE: u128 = 2_000;
+
 #[derive(Default)]
 struct Counts {
     tables: u64,
@@ -29,6 +33,8 @@ struct Counts {
     fits: u64,
     misses: u64,
     refused: u64,
+    /// Tables with an idle point, and tables without one.
+    idle: [u64; 2],
     questions: u64,
 }
 
@@ -117,6 +123,14 @@ fn judge(table: &Table, counts: &mut Counts) {
         1 => counts.misses += 1,
         _ => counts.refused += 1,
     }
+    let Ok(figures) = model::figures(&table.tasks, &table.handlers) else { return };
+    if figures.hyper > IDLE_PATIENCE {
+        return;
+    }
+    match idle::claims(&figures, want[2] as u128) {
+        Ok(found) => counts.idle[!found as usize] += 1,
+        Err(what) => differ(&what, table, format!("{got:?}"), format!("{want:?}")),
+    }
 }
 
 /// Whole runs, and steps of runs made elsewhere.
@@ -202,6 +216,7 @@ fn main() {
         "seed {seed}: {} tables, {} verdicts compared ({} fits, {} misses, {} refused; {} with short deadlines), {} questions compared, 0 differences",
         counts.tables, counts.verdicts, counts.fits, counts.misses, counts.refused, counts.short, counts.questions
     );
+    println!("seed {seed}: {} idle points where W and H put them, {} tables without one, 0 differences", counts.idle[0], counts.idle[1]);
     println!(
         "seed {seed}: {} runs, {} steps compared ({} late, refused 6 to 11: {:?}), 0 differences",
         steps.runs, steps.ticks, steps.late, &steps.refused[6..]

@@ -109,19 +109,36 @@ pub fn period(all: &[u128]) -> Option<u128> {
     None
 }
 
+/// A readable table with its H and W.
+pub struct Figures {
+    pub tasks: Vec<Task>,
+    pub handlers: Vec<Handler>,
+    pub hyper: u128,
+    pub whole: u128,
+}
+
+/// H and W of a table, or its refusal.
+pub fn figures(tasks: &[u32], handlers: &[u32]) -> Result<Figures, u32> {
+    match table_refusal(tasks, handlers) {
+        0 => {}
+        k => return Err(k),
+    }
+    let (tasks, handlers) = (tasks_of(tasks), handlers_of(handlers));
+    let periods: Vec<u128> = tasks.iter().map(|r| r.period).chain(handlers.iter().map(|r| r.period)).collect();
+    let Some(hyper) = period(&periods) else { return Err(4) };
+    let costs = tasks.iter().map(|r| r.cost).chain(handlers.iter().map(|r| r.cost));
+    let whole = costs.zip(&periods).map(|(c, p)| c * (hyper / p)).sum();
+    Ok(Figures { tasks, handlers, hyper, whole })
+}
+
 /// The six figures of a sheet: 0 fits, 1 misses, 2 refused; code, interval, handler, task, load.
 /// Where a blind search would have to go further than `patience`, the length to which it would have to go.
 pub fn verdict(tasks: &[u32], handlers: &[u32], patience: u128) -> Result<[u64; 6], u128> {
-    let refused = |k: u32| Ok([2, k as u64, 0, 0, 0, 0]);
-    let k = table_refusal(tasks, handlers);
-    if k != 0 {
-        return refused(k);
-    }
-    let (t, h) = (tasks_of(tasks), handlers_of(handlers));
-    let periods: Vec<u128> = t.iter().map(|r| r.period).chain(h.iter().map(|r| r.period)).collect();
-    let Some(hyper) = period(&periods) else { return refused(4) };
-    let costs = t.iter().map(|r| r.cost).chain(h.iter().map(|r| r.cost));
-    let whole: u128 = costs.zip(&periods).map(|(c, p)| c * (hyper / p)).sum();
+    let table = match figures(tasks, handlers) {
+        Ok(table) => table,
+        Err(k) => return Ok([2, k as u64, 0, 0, 0, 0]),
+    };
+    let Figures { tasks, handlers, hyper, whole } = table;
     let mut load = 1_000_000 * whole / hyper;
     if load * hyper < 1_000_000 * whole {
         load += 1;
@@ -131,8 +148,8 @@ pub fn verdict(tasks: &[u32], handlers: &[u32], patience: u128) -> Result<[u64; 
     let mut f = Handled::default();
     let mut d = 0;
     for l in 1..=end {
-        f.next(&h);
-        for task in &t {
+        f.next(&handlers);
+        for task in &tasks {
             if l >= task.deadline && (l - task.deadline) % task.period == 0 {
                 d += task.cost;
             }

@@ -1,2 +1,3 @@
 -- Laws of what stands in specs/Inside.
 pub mod Search
+pub mod Drain

@@ -4,6 +4,8 @@ pub mod Readable
 pub mod Facts
 pub mod Lengths
 pub mod Promise
+pub mod Idle
+pub mod IdleCases
 pub mod Lightening
 pub mod Full
 pub mod Cases

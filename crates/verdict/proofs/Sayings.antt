@@ -1,8 +1,10 @@
 -- Answers that meet the promise, from what the code has in hand.
+use mathlib.Core.Bool.{Bool}
 use mathlib.Core.List.{List}
 use mathlib.Core.Path.{_≡_, ap, sym, subst, _∙_}
 use native.Mathlib.Nat.{mul-le-mul}
 use native.Mathlib.Omega.{arith}
+use lib.Dec.{ltb}
 use Prim.Native.Nat.{ℕ, _+_, _*_, _≤_, _<_}
 use Rattle.demand.specs.Limits.{ticksMost}
 use Rattle.demand.specs.Refusals.{tableRefusal}
@@ -10,7 +12,7 @@ use Rattle.demand.specs.Rows.{Row, tasksOf, handlersOf}
 use Rattle.demand.proofs.Inside.Sizes.{tasks-valid, handlers-positive}
 use Rattle.demand.proofs.Sums.{valid-positive}
 use Rattle.verdict.specs.Inside.Search.{FoundAt, FoundSays, endBy, searchEnd}
-use Rattle.verdict.specs.Facts.{PassesTo, bound}
+use Rattle.verdict.specs.Facts.{bound}
 use Rattle.verdict.specs.Loads.{work, whole, costs, slack, millionths, load, workMost}
 use Rattle.demand.specs.Multiples.{capped}
 use Rattle.verdict.specs.Multiples.{common}
@@ -20,7 +22,8 @@ use Rattle.verdict.specs.declared.Miss.{Miss}
 use Rattle.verdict.specs.declared.search.Found.{Found}
 use Rattle.verdict.specs.declared.search.Found.the-variants as found
 use Rattle.verdict.proofs.Divisors.{common-positive}
-use Rattle.verdict.proofs.Facts.Ends.{end-le, end-enough}
+use Rattle.verdict.proofs.Facts.Ends.{end-le}
+use Rattle.verdict.proofs.Idle.{looked-enough}
 use Rattle.demand.proofs.Periods.{capped-zero, capped-some}
 use Rattle.verdict.proofs.Loads.{work-most, costs-most, slack-most}
 use Rattle.verdict.proofs.Readable.{readable-in-range, readable-common, readable-zero, common-small, refused-4, refused-table}
@@ -39,6 +42,9 @@ module _ (ts hs : List Row) (h w v : ℕ) (eh : h ≡ common ts hs) (ew : w ≡ 
   pub end-read : (e s n : ℕ) → e ≡ costs hs → s ≡ slack h ts → n ≡ endBy h (w + v) (e * h + s) → n ≡ searchEnd ts hs
   unfolding searchEnd bound
   end-read e s n ee es en = en ∙ rw (whole-read, ee, es, eh)
+
+  pub looks-read : ltb (whole ts hs) (common ts hs) ≡ ltb (w + v) h
+  looks-read = rw (whole-read, eh)
 
 -- ---- on a readable table they fit
 
@@ -82,19 +88,21 @@ module _ (t h : List ℕ) where
         let within = capped-some (common (tasksOf t) (handlersOf h)) m some em in
         (readable-zero t h e (within .1), within .0)
 
-  module _ (readable : verdictRefusal t h ≡ 0) (l n : ℕ) (el : l ≡ load (tasksOf t) (handlersOf h)) (en : n ≡ searchEnd (tasksOf t) (handlersOf h)) where
-    pub says-fits : (r : Found) → FoundSays (tasksOf t) (handlersOf h) n r → r ≡ found.Nothing → VerdictSays t h (answer.Fits l)
+  module _ (readable : verdictRefusal t h ≡ 0) (l n : ℕ) (el : l ≡ load (tasksOf t) (handlersOf h)) (en : n ≡ searchEnd (tasksOf t) (handlersOf h))
+      (looks : Bool) where
+    -- The idle point is looked for where W is below H: there is one.
+    pub says-fits : (ltb (whole (tasksOf t) (handlersOf h)) (common (tasksOf t) (handlersOf h)) ≡ looks) → (r : Found)
+        → FoundSays (tasksOf t) (handlersOf h) n looks r → r ≡ found.Nothing → VerdictSays t h (answer.Fits l)
     unfolding VerdictSays Says SaysBy figures FoundSays
-    says-fits r says e =
-        let passes : PassesTo (tasksOf t) (handlersOf h) n = subst (FoundSays (tasksOf t) (handlersOf h) n) e says in
-        record {
-          readable = readable;
-          passes = end-enough (tasksOf t) (handlersOf h) (readable-in-range t h readable) (rw en at passes);
-          figures = ap yesOf el;
-        }
+    says-fits light r says e = record {
+      readable = readable;
+      passes = looked-enough (tasksOf t) (handlersOf h) (readable-in-range t h readable) looks light
+          (rw en at (subst (FoundSays (tasksOf t) (handlersOf h) n looks) e says));
+      figures = ap yesOf el;
+    }
 
-    pub says-misses : (r : Found) (m : Miss) → FoundSays (tasksOf t) (handlersOf h) n r → r ≡ found.At m → VerdictSays t h (answer.Misses m l)
+    pub says-misses : (r : Found) (m : Miss) → FoundSays (tasksOf t) (handlersOf h) n looks r → r ≡ found.At m → VerdictSays t h (answer.Misses m l)
     unfolding VerdictSays Says SaysBy figures FoundSays
     says-misses r m says e =
-        let at : FoundAt (tasksOf t) (handlersOf h) n m = subst (FoundSays (tasksOf t) (handlersOf h) n) e says in
+        let at : FoundAt (tasksOf t) (handlersOf h) n m = subst (FoundSays (tasksOf t) (handlersOf h) n looks) e says in
         record { readable = readable; shortest = at .shortest; figures = λ i. noOf (at .exact i) (el i) }

@@ -9,6 +9,8 @@ pub mod Promise
 pub mod Lengths
 -- the facts that end the search
 pub mod Facts
+-- the idle point, where all work has drained (M-105)
+pub mod Idle
 -- what a load says (M-100)
 pub mod Full
 -- a yes holds under less (00, demand 3)

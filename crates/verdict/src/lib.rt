@@ -1,4 +1,5 @@
 // The verdict on a table: does every interval have room, and if not, which is the shortest that fails.
+mod drain;
 mod load;
 mod multiples;
 mod search;
@@ -62,7 +63,7 @@ fn judged(tasks: &[u32], handlers: &[u32], h: u64) -> Answer
     let load = load::of_work(w, h);
     let bound = load::costs(handlers) * h + load::slack(tasks, h);
     let end = search::end_of(h, w, bound);
-    let found = search::first_failing(tasks, handlers, end);
+    let found = search::first_failing(tasks, handlers, end, w < h);
     match found {
         Found::At { miss } => Answer::Misses { miss, load },
         Found::Nothing => Answer::Fits { load },

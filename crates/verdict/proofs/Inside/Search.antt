@@ -1,7 +1,8 @@
 -- The search from one deadline to the next: what has passed so far, and what the first length that fails says.
+use mathlib.Core.Bool.{Bool, true, false}
 use mathlib.Core.List.{List}
 use mathlib.Core.Logic.{_⊎_, inl, inr}
-use mathlib.Core.Path.{_≡_, ap, sym, _∙_}
+use mathlib.Core.Path.{_≡_, refl, ap, sym, _∙_}
 use native.Mathlib.Omega.{arith}
 use Prim.Native.Nat.{ℕ, zero, suc, _+_, _-_, _^_, _≤_, _<_}
 use lib.ListN.{length, take, drop, length-drop}
@@ -15,6 +16,7 @@ use Rattle.demand.specs.Inside.Sizes.{Small}
 use Rattle.demand.specs.Limits.{tasksMost, handlersMost, ticksMost}
 use Rattle.demand.specs.Refusals.{InRange, tableRefusal}
 use Rattle.demand.specs.Rows.{Row, tasksOf, handlersOf}
+use Rattle.demand.specs.Tests.{pick}
 use Rattle.demand.specs.declared.arrivals.Progress.{Progress}
 use Rattle.demand.specs.declared.events.Event.{Event}
 use Rattle.demand.specs.declared.events.Event.the-variants.{Arrival, Deadline}
@@ -26,7 +28,15 @@ use Rattle.demand.proofs.Inside.Events.{work-due, handlers-placeable}
 use Rattle.demand.proofs.Inside.Sizes.{fair-positive, due-most, called-most}
 use Rattle.demand.proofs.Refusals.{refusal-in-range}
 use Rattle.verdict.specs.Facts.{PassesTo}
-use Rattle.verdict.specs.Inside.Search.{FoundAt, Searched}
+use Rattle.verdict.specs.Idle.{Idle}
+use Rattle.verdict.specs.Inside.Search.{FoundAt, FoundSays, Searched}
+use Rattle.verdict.specs.declared.search.Found.the-variants.{Nothing}
+use Rattle.verdict.proofs.Idle.{idle-unique}
+
+-- The idle point is looked for within the limit.
+pub sight-most : (looks : Bool) (n s : ℕ) → n ≤ ticksMost → s ≡ pick looks n 0 → s ≤ ticksMost
+sight-most true n s fits e = omega arith
+sight-most false n s fits e = omega arith
 
 -- Before the first tick nothing has been asked.
 pub searched-start : (ts hs : List Row) (t h : List Entry) (p : Progress) → InRange ts hs → Begun Deadline ts t → Begun Arrival hs h → p ≡ outset
@@ -76,6 +86,15 @@ module _ (ts hs : List Row) (range : InRange ts hs) (t h : List Entry) (p : Prog
   -- No deadline is left up to end: all has passed.
   pub passes-out : (end : ℕ) → end < next (head t) → PassesTo ts hs end
   passes-out end m x from within = before-next x from (omega arith)
+
+  -- All has drained before the next deadline: no length up to the idle point fails.
+  pub passes-drained : (looks : Bool) (w end n : ℕ) → n ≡ pick looks (next (head t)) 0 → w < n → (w < n → Idle ts hs w) → FoundSays ts hs end looks Nothing
+  unfolding FoundSays
+  passes-drained false w end n e below idle = absurd (omega arith)
+  passes-drained true w end n e below idle =
+      λ z point l from within.
+      let same : z ≡ w = idle-unique ts hs z w (point refl) (idle below) in
+      before-next l from (omega (arith, same, within))
 
   module _ (n : ℕ) (here : n ≡ next (head t)) (fits : n ≤ ticksMost) where
     pub search-level : Level h p n

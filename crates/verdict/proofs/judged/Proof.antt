@@ -2,7 +2,7 @@ use mathlib.Core.Path.{refl}
 use native.Mathlib.Omega.{arith}
 use Rattle.demand.proofs.Inside.Sizes.{small-less}
 use Rattle.verdict.proofs.Readable.{readable-in-range, readable-table, common-small}
-use Rattle.verdict.proofs.Sayings.{load-read, end-read, whole-most, bound-fits, end-fits, says-fits, says-misses}
+use Rattle.verdict.proofs.Sayings.{load-read, end-read, looks-read, whole-most, bound-fits, end-fits, says-fits, says-misses}
 use borrow.Author.Needs.{needs}
 use Rattle.verdict.proofs.judged.Statement.{statement}
 use Rattle.verdict.proofs.judged.Tie as tie
@@ -65,7 +65,7 @@ returns c =
     let handlers = c .before .before .before .before .before .before .before .before .work2 .ensures in
     let load = load-read _ _ _ _ _ (x .pre .1) tasks handlers _ (c .before .before .before .before .before .before .before .of-work .ensures) in
     let end = end-read _ _ _ _ _ (x .pre .1) tasks handlers _ _ _ (c .before .before .before .before .before .before .costs .ensures) (c .before .before .before .before .before .slack .ensures) (c .before .before .before .before .end-of .ensures) in
-    says-misses _ _ (x .pre .0) _ _ load end _ _ (c .before .before .before .first-failing .ensures) (c .before .found .given .1)
+    says-misses _ _ (x .pre .0) _ _ load end _ _ _ (c .before .before .before .first-failing .ensures) (c .before .found .given .1)
 
 returns-2 : tie.Need-returns-2
 returns-2 c =
@@ -74,7 +74,7 @@ returns-2 c =
     let handlers = c .before .before .before .before .before .before .before .work2 .ensures in
     let load = load-read _ _ _ _ _ (x .pre .1) tasks handlers _ (c .before .before .before .before .before .before .of-work .ensures) in
     let end = end-read _ _ _ _ _ (x .pre .1) tasks handlers _ _ _ (c .before .before .before .before .before .costs .ensures) (c .before .before .before .before .slack .ensures) (c .before .before .before .end-of .ensures) in
-    says-fits _ _ (x .pre .0) _ _ load end _ (c .before .before .first-failing .ensures) (c .enum-told .given .1)
+    says-fits _ _ (x .pre .0) _ _ load end _ (looks-read _ _ _ _ _ (x .pre .1) tasks handlers) _ (c .before .before .first-failing .ensures) (c .enum-told .given .1)
 
 pub judged-spec : {M : Type 1} → statement M
 judged-spec =

@@ -1,8 +1,10 @@
 -- How far a search goes, and what it finds. No promise cites it: the facts that end it are stated in specs/Facts.
 --   endBy H W B            == the smallest end that the facts allow where H, W and the bound are these
 --   searchEnd ts hs        == that end of a table: no length above it need be looked at
---   FoundSays ts hs end r  the search's answer: the shortest length that fails, with what is told of it, or that none up to end does
+--   FoundSays ts hs end looks r   the search's answer: the shortest length that fails, with what is told of it, or that none does up to
+--                          end or, where it looks for the idle point, up to that if it comes sooner
 --   Searched ts hs t h p d the search has come to p .at, with f and A in p, D in d and the events t and h to come: all up to there passes
+use mathlib.Core.Bool.{Bool, true}
 use mathlib.Core.List.{List}
 use mathlib.Core.Path.{_≡_}
 use Prim.Native.Nat.{ℕ, _+_, _-_, _/_, _≤_, min}
@@ -15,6 +17,7 @@ use Rattle.demand.specs.Rows.{Row}
 use Rattle.demand.specs.Tests.{pick}
 use Rattle.demand.specs.declared.arrivals.Progress.{Progress}
 use Rattle.verdict.specs.Facts.{PassesTo, bound}
+use Rattle.verdict.specs.Idle.{Idle}
 use Rattle.verdict.specs.Loads.{whole}
 use Rattle.verdict.specs.Multiples.{common}
 use Rattle.verdict.specs.Promise.{LeastFailing, missAt}
@@ -38,9 +41,10 @@ pub record FoundAt (ts hs : List Row) (end : ℕ) (m : Miss) : Type 0 where
   pub within : m .interval ≤ end
   pub exact : m ≡ missAt ts hs (m .interval)
 
-unfoldable pub FoundSays : List Row → List Row → ℕ → Found → Type 0
-FoundSays ts hs end (At miss) = FoundAt ts hs end miss
-FoundSays ts hs end Nothing = PassesTo ts hs end
+-- z is the idle point where that was looked for, else any length.
+unfoldable pub FoundSays : List Row → List Row → ℕ → Bool → Found → Type 0
+FoundSays ts hs end looks (At miss) = FoundAt ts hs end miss
+FoundSays ts hs end looks Nothing = (z : ℕ) → (looks ≡ true → Idle ts hs z) → PassesTo ts hs (min z end)
 
 pub record Searched (ts hs : List Row) (t h : List Entry) (p : Progress) (d : ℕ) : Type 0 where
   pub some : 1 ≤ length t
