@@ -48,7 +48,7 @@ static uint64_t counted(const uint32_t *h, size_t n, uint64_t l) {
 }
 
 static uint64_t proved(const uint32_t *h, size_t n, uint64_t l) {
-    uint64_t out[2];
+    uint64_t out[3];
     cowriedash_handler_demand(task, 3, h, n, l, out);
     return out[1];
 }

@@ -32,7 +32,7 @@ static int deadline_outside(const uint32_t *t, size_t n) {
     return 0;
 }
 
-typedef uint64_t search(const uint32_t *t, size_t nt, const uint32_t *h, size_t nh, uint64_t end, int looks, uint64_t out[6]);
+typedef uint64_t search(const uint32_t *t, size_t nt, const uint32_t *h, size_t nh, uint64_t end, int looks, uint64_t *out);
 
 static uint64_t common(const uint32_t *t, size_t nt, const uint32_t *h, size_t nh) {
     uint64_t H = 1;
@@ -50,8 +50,8 @@ static uint64_t work(uint64_t H, const uint32_t *s, size_t n, size_t width) {
 /* How far the last search went: to the shortest interval that fails, to the idle point or to its end. */
 static uint64_t reached;
 
-/* The six numbers of the verdict; `looks` as 1 ends the search at the idle point too. */
-static void plain(search *walk, const uint32_t *t, size_t nt, const uint32_t *h, size_t nh, int looks, uint64_t out[6]) {
+/* The numbers of the verdict; `looks` as 1 ends the search at the idle point too. */
+static void plain(search *walk, const uint32_t *t, size_t nt, const uint32_t *h, size_t nh, int looks, uint64_t *out) {
     uint64_t H, W, B = 0, end;
     if (nt % 3 || nh % 2 || nt == 0 || 192 < nt || 32 < nh) return;
     if (outside(t, nt, 3) || outside(h, nh, 2) || deadline_outside(t, nt)) return;
@@ -59,7 +59,7 @@ static void plain(search *walk, const uint32_t *t, size_t nt, const uint32_t *h,
     W = work(H, t, nt, 3) + work(H, h, nh, 2);
     for (size_t i = 0; i < nt; i += 3) B += t[i] * (H / t[i + 1]) * (t[i + 1] - t[i + 2]);
     for (size_t i = 0; i < nh; i += 2) B += h[i] * H;
-    memset(out, 0, 6 * sizeof *out);
+    memset(out, 0, COWRIEDASH_NUMBERS * sizeof *out);
     out[5] = 1000000 * (W / H) + (1000000 * (W % H) + (H - 1)) / H;
     end = H < W ? H : B == 0 ? 0 : W == H ? H : (B - 1) / (H - W);
     if (H < end) end = H;
@@ -82,7 +82,7 @@ static void row(const char *name, const char *word, const double best[3], int sa
 /* In turn, and the best of each, of `calls` calls a turn: what else runs on the machine slows all three. Without `old` the old walk is left
    out: it would take minutes. */
 static void compare(const char *name, const uint32_t *t, size_t nt, const uint32_t *h, size_t nh, int turns, int calls, int old) {
-    uint64_t ours[6], theirs[6], before[6], upto;
+    uint64_t ours[COWRIEDASH_NUMBERS], theirs[COWRIEDASH_NUMBERS], before[COWRIEDASH_NUMBERS], upto;
     double best[3] = {1e9, 1e9, 1e9};
     for (int turn = 0; turn < turns; turn++) {
         double a = now();
@@ -104,7 +104,7 @@ static void compare(const char *name, const uint32_t *t, size_t nt, const uint32
 /* A table with W below H: the lengths tested up to the end that the facts allow, and up to the idle point; then cowriedash beside the C that
    does not look for it. */
 static void drain(const char *name, const uint32_t *t, size_t nt, const uint32_t *h, size_t nh, int turns, int calls) {
-    uint64_t ours[6], theirs[6], far, all, near, few;
+    uint64_t ours[COWRIEDASH_NUMBERS], theirs[COWRIEDASH_NUMBERS], far, all, near, few;
     double best[2] = {1e9, 1e9};
     for (int turn = 0; turn < turns; turn++) {
         double a = now();
@@ -125,7 +125,7 @@ static void drain(const char *name, const uint32_t *t, size_t nt, const uint32_t
 
 static void ask(const char *name, const uint32_t *h, size_t nh, uint64_t l) {
     const uint32_t t[] = {1, 1, 1};
-    uint64_t ours[2], theirs, old;
+    uint64_t ours[3], theirs, old;
     double a = now();
     cowriedash_handler_demand(t, 3, h, nh, l, ours);
     double b = now();

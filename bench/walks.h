@@ -62,7 +62,7 @@ static inline void to(struct entry *q, struct progress *p, uint64_t m) {
 /* How many lengths the last search tested. */
 static uint64_t tested;
 
-static uint64_t carried(const uint32_t *t, size_t nt, const uint32_t *h, size_t nh, uint64_t end, int looks, uint64_t out[6]) {
+static uint64_t carried(const uint32_t *t, size_t nt, const uint32_t *h, size_t nh, uint64_t end, int looks, uint64_t *out) {
     struct entry due[65], calls[17], a[65], b[17];
     struct progress p = {0, 0, 0};
     uint64_t d = 0, asked;
@@ -81,7 +81,7 @@ static uint64_t carried(const uint32_t *t, size_t nt, const uint32_t *h, size_t 
         to(calls, &p, n);
         d = take(due, d);
         if (n < p.taken + d) {
-            out[0] = 1, out[2] = n, out[3] = p.taken, out[4] = d;
+            out[0] = 1, out[2] = n, out[3] = p.taken, out[4] = d, out[6] = p.called - p.taken;
             return n;
         }
     }
@@ -143,7 +143,7 @@ static uint64_t handled(const uint32_t *h, size_t n, uint64_t at, uint64_t f, ui
     return f;
 }
 
-static uint64_t divided(const uint32_t *t, size_t nt, const uint32_t *h, size_t nh, uint64_t end, int looks, uint64_t out[6]) {
+static uint64_t divided(const uint32_t *t, size_t nt, const uint32_t *h, size_t nh, uint64_t end, int looks, uint64_t *out) {
     uint64_t l = 0, f = 0;
     (void)looks;
     for (tested = 0; l < end; tested++) {
@@ -152,7 +152,7 @@ static uint64_t divided(const uint32_t *t, size_t nt, const uint32_t *h, size_t 
         f = handled(h, nh, l, f, n);
         d = due(t, nt, n);
         if (n < f + d) {
-            out[0] = 1, out[2] = n, out[3] = f, out[4] = d;
+            out[0] = 1, out[2] = n, out[3] = f, out[4] = d, out[6] = called(h, nh, n) - f;
             return n;
         }
         l = n;

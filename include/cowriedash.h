@@ -3,7 +3,7 @@
    A table is two lists of 32-bit numbers: tasks in threes (cost, period, deadline, cost, ..), each deadline from 1 to
    its period, and handlers in twos (cost, period, cost, ..).
    A count is the count of numbers, not of rows; a list with the count 0 may be NULL. Every input gets an answer; nothing lent is
-   changed but `out`, which must not overlap the lists.
+   changed but `out` and `left`, which must not overlap the lists or each other.
    Nothing is kept between calls, so that any number of threads may call at once, each with its own `out`; no memory is asked for, and a few
    kilobytes of stack are enough.
    Running time: microseconds to milliseconds for a usual table. A verdict goes through the deadlines of tasks and the arrivals of handlers
@@ -23,21 +23,28 @@ extern "C" {
 /* What out[0] of cowriedash_verdict says. */
 enum { COWRIEDASH_FITS = 0, COWRIEDASH_MISSES = 1, COWRIEDASH_REFUSED = 2 };
 
-/* out: fits, misses or refused; the refusal's number (1, 2, 3, 13 or 4) or 0; the shortest interval that fails; handler demand
-   there; task demand there; the load in millionths, rounded up. What does not apply is 0. */
-void cowriedash_verdict(const uint32_t *tasks, size_t tasks_count, const uint32_t *handlers, size_t handlers_count,
-                        uint64_t out[6]);
+/* How many numbers a verdict has. */
+enum { COWRIEDASH_NUMBERS = 7 };
 
-/* out: the refusal's number (1, 2, 3, 13 or 5) or 0; the demand of an interval of l ticks, 0 if refused. */
+/* out: fits, misses or refused; the refusal's number (1, 2, 3, 13 or 4) or 0; the shortest interval that fails; handler demand
+   there; task demand there; the load in millionths, rounded up; the handlers' work left over at the end of that interval. What does
+   not apply is 0. */
+void cowriedash_verdict(const uint32_t *tasks, size_t tasks_count, const uint32_t *handlers, size_t handlers_count,
+                        uint64_t out[COWRIEDASH_NUMBERS]);
+
+/* out: the refusal's number (1, 2, 3, 13 or 5) or 0; the ticks of an interval of l that handlers take; their work left over at its end.
+   Both are 0 if refused. */
 void cowriedash_handler_demand(const uint32_t *tasks, size_t tasks_count, const uint32_t *handlers,
-                               size_t handlers_count, uint64_t l, uint64_t out[2]);
+                               size_t handlers_count, uint64_t l, uint64_t out[3]);
+
+/* out: the refusal's number (1, 2, 3, 13 or 5) or 0; the work of tasks due within l ticks, 0 if refused. */
 void cowriedash_task_demand(const uint32_t *tasks, size_t tasks_count, const uint32_t *handlers, size_t handlers_count,
                             uint64_t l, uint64_t out[2]);
 
 /* Returns the refusal's number (1, 2, 3, 13 or 5) or 0; out: l less both demands, below 0 exactly where the interval
-   fails, 0 if refused. */
+   fails; left: the handlers' work left over at its end. Both are 0 if refused. */
 uint32_t cowriedash_margin(const uint32_t *tasks, size_t tasks_count, const uint32_t *handlers, size_t handlers_count,
-                           uint64_t l, int64_t *out);
+                           uint64_t l, int64_t *out, uint64_t *left);
 
 #ifdef __cplusplus
 }

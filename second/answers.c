@@ -50,18 +50,18 @@ static struct {
 } run;
 
 static void answer(uint64_t question) {
-    uint64_t out[6] = {0};
+    uint64_t out[COWRIEDASH_NUMBERS] = {0};
     int64_t ticks = 0;
     switch (question) {
     case 1:
         table();
         cowriedash_verdict(tasks, tasks_count, handlers, handlers_count, out);
-        put(out, 6 * sizeof *out);
+        put(out, sizeof out);
         break;
     case 2:
         table();
         cowriedash_handler_demand(tasks, tasks_count, handlers, handlers_count, number(), out);
-        put(out, 2 * sizeof *out);
+        put(out, 3 * sizeof *out);
         break;
     case 3:
         table();
@@ -70,8 +70,8 @@ static void answer(uint64_t question) {
         break;
     case 4:
         table();
-        out[0] = cowriedash_margin(tasks, tasks_count, handlers, handlers_count, number(), &ticks);
-        put(out, sizeof *out);
+        out[0] = cowriedash_margin(tasks, tasks_count, handlers, handlers_count, number(), &ticks, &out[1]);
+        put(out, 2 * sizeof *out);
         put(&ticks, sizeof ticks);
         break;
     case 5:

@@ -6,12 +6,13 @@
 
 int main(void) {
     const uint32_t tasks[] = {2, 5, 5, 4, 8, 8}, handlers[] = {1, 4};
-    uint64_t sheet[6];
-    int64_t left;
+    uint64_t sheet[COWRIEDASH_NUMBERS], left;
+    int64_t margin;
 
     cowriedash_verdict(tasks, 6, handlers, 2, sheet);
     if (sheet[0] == COWRIEDASH_MISSES)
-        printf("misses at %" PRIu64 ": handlers %" PRIu64 ", tasks %" PRIu64 "\n", sheet[2], sheet[3], sheet[4]);
-    if (cowriedash_margin(tasks, 6, handlers, 2, 8, &left) == 0) printf("margin at 8: %" PRId64 "\n", left);
+        printf("misses at %" PRIu64 ": handlers %" PRIu64 ", tasks %" PRIu64 ", left %" PRIu64 "\n", sheet[2], sheet[3], sheet[4], sheet[6]);
+    if (cowriedash_margin(tasks, 6, handlers, 2, 8, &margin, &left) == 0)
+        printf("margin at 8: %" PRId64 ", left %" PRIu64 "\n", margin, left);
     return 0;
 }

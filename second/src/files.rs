@@ -1,6 +1,6 @@
 //! Files through the program `fit` beside a plain reading of the layout.
 
-use crate::model;
+use crate::model::{self, refused};
 use crate::random::Random;
 use crate::tables::{self, Table};
 use std::io::Write;
@@ -60,15 +60,16 @@ pub fn read(bytes: &[u8]) -> Option<Said> {
 /// The two lines that the program must print, or the length to which a blind search would have to go to tell.
 pub fn sheet(bytes: &[u8], patience: u128) -> Result<String, u128> {
     let g = match read(bytes) {
-        None => [2, 12, 0, 0, 0, 0],
+        None => refused(12),
         Some(said) if said.misplaced => {
             let own = model::table_refusal(&said.table.tasks, &said.table.handlers);
-            [2, if own == 0 { 13 } else { own as u64 }, 0, 0, 0, 0]
+            refused(if own == 0 { 13 } else { own })
         }
         Some(said) => model::verdict(&said.table.tasks, &said.table.handlers, patience)?,
     };
     let word = ["fits", "misses", "refused"][g[0] as usize];
-    Ok(format!("verdict,code,interval,handler,task,load\r\n{word},{},{},{},{},{}\r\n", g[1], g[2], g[3], g[4], g[5]))
+    let numbers: Vec<String> = g[1..].iter().map(u64::to_string).collect();
+    Ok(format!("verdict,code,interval,handler,task,load,left\r\n{word},{}\r\n", numbers.join(",")))
 }
 
 /// A table as text under either header, and then perhaps damaged.

@@ -49,15 +49,16 @@ fn differ(what: &str, table: &Table, ours: String, theirs: String) -> ! {
 fn ask(table: &Table, l: u64, counts: &mut Counts) {
     let (t, h) = (&table.tasks, &table.handlers);
     let code = model::asked_refusal(t, h, l);
-    let (f, d) = if code == 0 && l as u128 <= PATIENCE {
+    let (f, left, d) = if code == 0 && l as u128 <= PATIENCE {
         let l = l as u128;
-        (model::handled(&model::handlers_of(h), l), model::due(&model::tasks_of(t), l))
+        let f = model::handled(&model::handlers_of(h), l);
+        (f.ticks, f.left(), model::due(&model::tasks_of(t), l))
     } else if code == 0 {
         return;
     } else {
-        (0, 0)
+        (0, 0, 0)
     };
-    let want = [code as u64, f as u64];
+    let want = [code as u64, f as u64, left as u64];
     let got = proved::handler_demand(t, h, l);
     if got != want {
         differ(&format!("handler demand at {l}"), table, format!("{got:?}"), format!("{want:?}"));
@@ -68,7 +69,7 @@ fn ask(table: &Table, l: u64, counts: &mut Counts) {
         differ(&format!("task demand at {l}"), table, format!("{got:?}"), format!("{want:?}"));
     }
     let margin = if code == 0 { l as i128 - f as i128 - d as i128 } else { 0 };
-    let want = (code, margin as i64);
+    let want = (code as u64, left as u64, margin as i64);
     let got = proved::margin(t, h, l);
     if got != want {
         differ(&format!("margin at {l}"), table, format!("{got:?}"), format!("{want:?}"));
@@ -99,7 +100,8 @@ fn ask_wholes(random: &mut Random, counts: &mut Counts) {
 /// f at the limit, tick by tick.
 fn ask_limit(counts: &mut Counts) {
     let handlers = vec![2, 6, 1, 4];
-    let want = [0, model::handled(&model::handlers_of(&handlers), model::LIMIT) as u64];
+    let f = model::handled(&model::handlers_of(&handlers), model::LIMIT);
+    let want = [0, f.ticks as u64, f.left() as u64];
     let table = Table { tasks: vec![1, 1_000, 1_000], handlers };
     let got = proved::handler_demand(&table.tasks, &table.handlers, model::LIMIT as u64);
     if got != want {

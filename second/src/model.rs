@@ -4,6 +4,9 @@
 pub const FIGURE: u128 = 1_000_000;
 pub const LIMIT: u128 = 1_000_000_000;
 
+/// How many numbers a sheet has, that of its word with them.
+pub const NUMBERS: usize = 7;
+
 #[derive(Clone, Copy, Debug, PartialEq)]
 pub struct Task {
     pub cost: u128,
@@ -63,6 +66,11 @@ pub struct Handled {
 }
 
 impl Handled {
+    /// Called for and not done: what handlers leave over.
+    pub fn left(&self) -> u128 {
+        self.work - self.ticks
+    }
+
     fn next(&mut self, handlers: &[Handler]) {
         for h in handlers {
             if self.tick % h.period == 0 {
@@ -76,11 +84,11 @@ impl Handled {
     }
 }
 
-/// f(l).
-pub fn handled(handlers: &[Handler], l: u128) -> u128 {
+/// f(l), and what handlers leave over.
+pub fn handled(handlers: &[Handler], l: u128) -> Handled {
     let mut f = Handled::default();
     (0..l).for_each(|_| f.next(handlers));
-    f.ticks
+    f
 }
 
 /// D(l): each task's deadlines up to l, counted, the first job arriving at 0.
@@ -131,12 +139,19 @@ pub fn figures(tasks: &[u32], handlers: &[u32]) -> Result<Figures, u32> {
     Ok(Figures { tasks, handlers, hyper, whole })
 }
 
-/// The six figures of a sheet: 0 fits, 1 misses, 2 refused; code, interval, handler, task, load.
+/// The numbers of a refusal: all but its own are 0.
+pub fn refused(number: u32) -> [u64; NUMBERS] {
+    let mut sheet = [0; NUMBERS];
+    sheet[..2].copy_from_slice(&[2, number as u64]);
+    sheet
+}
+
+/// The numbers of a sheet: 0 fits, 1 misses, 2 refused; code, interval, handler, task, load, left.
 /// Where a blind search would have to go further than `patience`, the length to which it would have to go.
-pub fn verdict(tasks: &[u32], handlers: &[u32], patience: u128) -> Result<[u64; 6], u128> {
+pub fn verdict(tasks: &[u32], handlers: &[u32], patience: u128) -> Result<[u64; NUMBERS], u128> {
     let table = match figures(tasks, handlers) {
         Ok(table) => table,
-        Err(k) => return Ok([2, k as u64, 0, 0, 0, 0]),
+        Err(k) => return Ok(refused(k)),
     };
     let Figures { tasks, handlers, hyper, whole } = table;
     let mut load = 1_000_000 * whole / hyper;
@@ -155,11 +170,11 @@ pub fn verdict(tasks: &[u32], handlers: &[u32], patience: u128) -> Result<[u64; 
             }
         }
         if f.ticks + d > l {
-            return Ok([1, 0, l as u64, f.ticks as u64, d as u64, load as u64]);
+            return Ok([1, 0, l as u64, f.ticks as u64, d as u64, load as u64, f.left() as u64]);
         }
     }
     if end < 2 * hyper {
         return Err(2 * hyper);
     }
-    Ok([0, 0, 0, 0, 0, load as u64])
+    Ok([0, 0, 0, 0, 0, load as u64, 0])
 }

@@ -71,18 +71,19 @@ fn about(question: u64, t: &[u32], h: &[u32]) -> Laid {
 }
 
 pub fn verdict(t: &[u32], h: &[u32]) -> Vec<u64> {
-    about(1, t, h).answer(48).longs(6)
+    about(1, t, h).answer(56).longs(7)
 }
 
 pub fn handler_demand(t: &[u32], h: &[u32], l: u64) -> Vec<u64> {
-    about(2, t, h).number(l).answer(16).longs(2)
+    about(2, t, h).number(l).answer(24).longs(3)
 }
 
 pub fn task_demand(t: &[u32], h: &[u32], l: u64) -> Vec<u64> {
     about(3, t, h).number(l).answer(16).longs(2)
 }
 
-pub fn margin(t: &[u32], h: &[u32], l: u64) -> (u32, i64) {
-    let out = about(4, t, h).number(l).answer(16).longs(2);
-    (out[0] as u32, out[1] as i64)
+/// The refusal's number, what is left over, and the margin.
+pub fn margin(t: &[u32], h: &[u32], l: u64) -> (u64, u64, i64) {
+    let out = about(4, t, h).number(l).answer(24).longs(3);
+    (out[0], out[1], out[2] as i64)
 }

@@ -3,14 +3,14 @@ use mathlib.Core.List.{List}
 use mathlib.Core.Path.{_≡_, sym, ap, _∙_}
 use lib.IntN.{ℤ}
 use Prim.Native.Nat.{ℕ}
-use Rattle.demand.proofs.Answers.{demand-unique, margin-unique}
+use Rattle.demand.proofs.Answers.{demand-unique, handler-unique, margin-unique}
 use Rattle.demand.specs.Answers.{marginFigures}
 use Rattle.demand.specs.Refusals.{askedRefusal}
 use Rattle.demand.specs.Rows.{tasksOf, handlersOf}
 use Rattle.demand.specs.declared.MarginAnswer.{MarginAnswer}
 use Rattle.verdict.specs.Promise.{answerNumbers}
 use Rattle.verdict.proofs.Promise.{verdict-unique}
-use Rattle.cowriedash.specs.Numbers.{demandNumbers, VerdictTold, DemandTold, MarginTold}
+use Rattle.cowriedash.specs.Numbers.{demandNumbers, handlerNumbers, VerdictTold, DemandTold, HandlerTold, MarginTold}
 
 pub verdict-told-unique : (t h a b : List ℕ) → VerdictTold t h a → VerdictTold t h b → a ≡ b
 verdict-told-unique t h a b p q = p .numbers ∙ ap answerNumbers (verdict-unique t h (p .answer) (q .answer) (p .says) (q .says)) ∙ sym (q .numbers)
@@ -18,9 +18,16 @@ verdict-told-unique t h a b p q = p .numbers ∙ ap answerNumbers (verdict-uniqu
 pub demand-told-unique : (k n : ℕ) (a b : List ℕ) → DemandTold k n a → DemandTold k n b → a ≡ b
 demand-told-unique k n a b p q = p .numbers ∙ ap demandNumbers (demand-unique k n (p .answer) (q .answer) (p .says) (q .says)) ∙ sym (q .numbers)
 
-pub margin-told-unique : (t h : List ℕ) (l j k : ℕ) (y z : ℤ) → MarginTold t h l j y → MarginTold t h l k z → (j ≡ k) × (y ≡ z)
-margin-told-unique t h l j k y z p q =
+pub handler-told-unique : (t h : List ℕ) (l : ℕ) (a b : List ℕ) → HandlerTold t h l a → HandlerTold t h l b → a ≡ b
+handler-told-unique t h l a b p q =
+    let same = handler-unique (askedRefusal t h l) (handlersOf h) l (p .answer) (q .answer) (p .says) (q .says) in
+    p .numbers ∙ ap handlerNumbers same ∙ sym (q .numbers)
+
+pub margin-told-unique : (t h : List ℕ) (l j k : ℕ) (y z : ℤ) (m n : ℕ) → MarginTold t h l j y m → MarginTold t h l k z n
+    → (j ≡ k) × (y ≡ z) × (m ≡ n)
+margin-told-unique t h l j k y z m n p q =
     let same = margin-unique (askedRefusal t h l) (tasksOf t) (handlersOf h) l (p .answer) (q .answer) (p .says) (q .says) in (
       p .code ∙ ap (λ (a : MarginAnswer). marginFigures a .code) same ∙ sym (q .code),
       p .ticks ∙ ap (λ (a : MarginAnswer). marginFigures a .ticks) same ∙ sym (q .ticks),
+      p .left ∙ ap (λ (a : MarginAnswer). marginFigures a .left) same ∙ sym (q .left),
     )

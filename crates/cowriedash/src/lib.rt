@@ -1,7 +1,8 @@
 // The licensees' library: the demands and the verdict for C, with numbers and slices only at the boundary.
-ghost use Rattle.cowriedash.specs.Numbers.{demandNumbers, VerdictTold, HandlerTold, TaskTold, MarginTold};
+ghost use Rattle.cowriedash.specs.Numbers.{demandNumbers, handlerNumbers, VerdictTold, HandlerTold, TaskTold, MarginTold};
 ghost use mathlib.Core.Path.{_≡_};
 use demand::DemandAnswer;
+use demand::HandlerAnswer;
 use demand::MarginAnswer;
 use verdict::NUMBERS;
 
@@ -12,6 +13,16 @@ fn demand_numbers(answer: DemandAnswer) -> [u64; 2]
     match answer {
         DemandAnswer::Ticks { ticks } => [0, ticks],
         DemandAnswer::Refused { number } => [number as u64, 0],
+    }
+}
+
+// The three numbers of a handler demand: the refusal's number or 0, the ticks, then the work left over.
+fn handler_numbers(answer: HandlerAnswer) -> [u64; 3]
+    ensures { λ r. ⌜ r ≡ handlerNumbers answer ⌝ }
+{
+    match answer {
+        HandlerAnswer::Ticks { ticks, left } => [0, ticks, left],
+        HandlerAnswer::Refused { number } => [number as u64, 0, 0],
     }
 }
 
@@ -30,12 +41,12 @@ pub extern "C" fn cowriedash_handler_demand(
     tasks: &[u32],
     handlers: &[u32],
     l: u64,
-    out: &mut [u64; 2],
+    out: &mut [u64; 3],
 )
     ensures { λ _. ⌜ HandlerTold (now (tasks .entry)) (now (handlers .entry)) l (now (out .exit)) ⌝ }
 {
     let answer = demand::handler_demand(tasks, handlers, l);
-    *out = demand_numbers(answer);
+    *out = handler_numbers(answer);
 }
 
 // Task demand at l.
@@ -52,19 +63,27 @@ pub extern "C" fn cowriedash_task_demand(
     *out = demand_numbers(answer);
 }
 
-// The margin at l: the refusal's number or 0, and the ticks into out.
+// The margin at l: the refusal's number or 0, the ticks into out and the handlers' work left over into left.
 #[no_mangle]
-pub extern "C" fn cowriedash_margin(tasks: &[u32], handlers: &[u32], l: u64, out: &mut i64) -> u32
-    ensures { λ r. ⌜ MarginTold (now (tasks .entry)) (now (handlers .entry)) l r (now (out .exit)) ⌝ }
+pub extern "C" fn cowriedash_margin(
+    tasks: &[u32],
+    handlers: &[u32],
+    l: u64,
+    out: &mut i64,
+    left: &mut u64,
+) -> u32
+    ensures { λ r. ⌜ MarginTold (now (tasks .entry)) (now (handlers .entry)) l r (now (out .exit)) (now (left .exit)) ⌝ }
 {
     let answer = demand::margin(tasks, handlers, l);
     match answer {
-        MarginAnswer::Ticks { ticks } => {
+        MarginAnswer::Ticks { ticks, left: over } => {
             *out = ticks;
+            *left = over;
             0
         }
         MarginAnswer::Refused { number } => {
             *out = 0;
+            *left = 0;
             number
         }
     }

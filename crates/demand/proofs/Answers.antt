@@ -5,11 +5,13 @@ use native.Mathlib.Omega.{arith}
 use Prim.Native.Nat.{ℕ, zero, suc}
 use lib.Dec.{eqb·suc-zero}
 use lib.IntN.{ℤ}
-use Rattle.demand.specs.Answers.{figures, marginFigures, figuresBy, DemandSays, MarginSays}
-use Rattle.demand.specs.Demands.{margin, Negative}
+use Rattle.demand.specs.Answers.{figures, handlerFigures, marginFigures, figuresBy, DemandSays, HandlerSays, MarginSays}
+use Rattle.demand.specs.Demands.{handled, left, margin, Negative}
 use Rattle.demand.specs.Rows.{Row}
 use Rattle.demand.specs.declared.DemandAnswer.{DemandAnswer}
 use Rattle.demand.specs.declared.DemandAnswer.the-variants as demand
+use Rattle.demand.specs.declared.HandlerAnswer.{HandlerAnswer}
+use Rattle.demand.specs.declared.HandlerAnswer.the-variants as handler
 use Rattle.demand.specs.declared.MarginAnswer.{MarginAnswer}
 use Rattle.demand.specs.declared.MarginAnswer.the-variants as answer
 use Rattle.demand.proofs.Signs.{negative-fails, fails-negative}
@@ -24,15 +26,26 @@ unfolding figures figuresBy
 demand-refused zero n j some q = absurd (some refl)
 demand-refused (suc k) n j some q = record { answer = rw (eqb·suc-zero k) (ap demand.Refused q); figured = rw (q, eqb·suc-zero k) }
 
-pub margin-answered : (k : ℕ) (ts hs : List Row) (l : ℕ) (v : ℤ) → k ≡ 0 → v ≡ margin ts hs l → MarginSays k ts hs l (answer.Ticks v)
+pub handler-answered : (k : ℕ) (hs : List Row) (l v m : ℕ) → k ≡ 0 → v ≡ handled hs l → m ≡ left hs l → HandlerSays k hs l (handler.Ticks v m)
+unfolding handlerFigures figuresBy
+handler-answered zero hs l v m e q o = record { answer = λ i. handler.Ticks (q i) (o i); figured = rw (q, o) }
+handler-answered (suc k) hs l v m e q o = absurd (omega arith)
+
+pub handler-refused : (k : ℕ) (hs : List Row) (l j : ℕ) → (k ≡ 0 → ⊥) → j ≡ k → HandlerSays k hs l (handler.Refused j)
+unfolding handlerFigures figuresBy
+handler-refused zero hs l j some q = absurd (some refl)
+handler-refused (suc k) hs l j some q = record { answer = rw (eqb·suc-zero k) (ap handler.Refused q); figured = rw (q, eqb·suc-zero k) }
+
+pub margin-answered : (k : ℕ) (ts hs : List Row) (l : ℕ) (v : ℤ) (m : ℕ) → k ≡ 0 → v ≡ margin ts hs l → m ≡ left hs l
+    → MarginSays k ts hs l (answer.Ticks v m)
 unfolding marginFigures figuresBy
-margin-answered zero ts hs l v e q = record {
-  answer = ap answer.Ticks q;
-  figured = rw q;
+margin-answered zero ts hs l v m e q o = record {
+  answer = λ i. answer.Ticks (q i) (o i);
+  figured = rw (q, o);
   below = λ n. (refl, negative-fails ts hs l (subst Negative q n));
   fails = λ z f. subst Negative (sym q) (fails-negative ts hs l f);
 }
-margin-answered (suc k) ts hs l v e q = absurd (omega arith)
+margin-answered (suc k) ts hs l v m e q o = absurd (omega arith)
 
 pub margin-refused : (k : ℕ) (ts hs : List Row) (l j : ℕ) → (k ≡ 0 → ⊥) → j ≡ k → MarginSays k ts hs l (answer.Refused j)
 unfolding marginFigures figuresBy
@@ -47,6 +60,9 @@ margin-refused (suc k) ts hs l j some q = record {
 -- Two answers that the promise allows are equal.
 pub demand-unique : (k n : ℕ) (r s : DemandAnswer) → DemandSays k n r → DemandSays k n s → r ≡ s
 demand-unique k n r s p q = p .answer ∙ sym (q .answer)
+
+pub handler-unique : (k : ℕ) (hs : List Row) (l : ℕ) (r s : HandlerAnswer) → HandlerSays k hs l r → HandlerSays k hs l s → r ≡ s
+handler-unique k hs l r s p q = p .answer ∙ sym (q .answer)
 
 pub margin-unique : (k : ℕ) (ts hs : List Row) (l : ℕ) (r s : MarginAnswer) → MarginSays k ts hs l r → MarginSays k ts hs l s → r ≡ s
 margin-unique k ts hs l r s p q = p .answer ∙ sym (q .answer)

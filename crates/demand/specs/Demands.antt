@@ -3,6 +3,7 @@
 --   called hs l     == A(l), the work that handlers hs are called for within l ticks
 --   taken a l       == of l ticks, those that go to work of which a x has been called for by the end of tick x
 --   handled hs l    == f(l), the ticks of those l that handlers hs take: taken of called
+--   left hs l       == A(l) - f(l), the work of handlers hs left over at the end of l ticks (02, M-106)
 --   within l d p    == how many jobs, a period p apart from the first tick on, have their deadline, d ticks later, within l ticks
 --   due ts l        == D(l), the work of tasks ts that is due within l ticks
 --   margin ts hs l  == l - f(l) - D(l), a signed number
@@ -34,6 +35,9 @@ taken a (suc l) = grow (taken a l) (a (suc l))
 
 unfoldable pub handled : List Row → ℕ → ℕ
 handled hs l = taken (called hs) l
+
+unfoldable pub left : List Row → ℕ → ℕ
+left hs l = called hs l - handled hs l
 
 -- with l at least the deadline, one more than (l - d) / p
 abbrev pub within : ℕ → ℕ → ℕ → ℕ

@@ -10,8 +10,8 @@ pub mod table;
 ghost use mathlib.Core.Path.{_≡_};
 ghost use Prim.Native.Nat.{_≤_};
 ghost use lib.ListN.{length};
-ghost use Rattle.demand.specs.Answers.{DemandSays, MarginSays};
-ghost use Rattle.demand.specs.Demands.{handled, due};
+ghost use Rattle.demand.specs.Answers.{DemandSays, HandlerSays, MarginSays};
+ghost use Rattle.demand.specs.Demands.{handled, left, due};
 ghost use Rattle.demand.specs.Inside.Sizes.{Small};
 ghost use Rattle.demand.specs.Limits.{handlersMost};
 ghost use Rattle.demand.specs.Refusals.{askedRefusal};
@@ -26,24 +26,30 @@ pub enum DemandAnswer {
     Refused { number: u32 },
 }
 
-// A signed figure in ticks, or the number of the refusal.
-pub enum MarginAnswer {
-    Ticks { ticks: i64 },
+// The ticks that handlers take with the work that they leave over, or the number of the refusal.
+pub enum HandlerAnswer {
+    Ticks { ticks: u64, left: u64 },
     Refused { number: u32 },
 }
 
-// Handler demand f at l: the ticks of an interval of l that handlers take.
-pub fn handler_demand(tasks: &[u32], handlers: &[u32], l: u64) -> DemandAnswer
-    ensures { λ r. ⌜ DemandSays (askedRefusal (now (tasks .entry)) (now (handlers .entry)) l)
-        (handled (handlersOf (now (handlers .entry))) l) r ⌝ }
+// A signed figure in ticks with the work that handlers leave over, or the number of the refusal.
+pub enum MarginAnswer {
+    Ticks { ticks: i64, left: u64 },
+    Refused { number: u32 },
+}
+
+// Handler demand f at l: the ticks of an interval of l that handlers take, and the work that they leave over.
+pub fn handler_demand(tasks: &[u32], handlers: &[u32], l: u64) -> HandlerAnswer
+    ensures { λ r. ⌜ HandlerSays (askedRefusal (now (tasks .entry)) (now (handlers .entry)) l)
+        (handlersOf (now (handlers .entry))) l r ⌝ }
 {
     let number = refusal::of_question(tasks, handlers, l);
     if number == 0 {
-        DemandAnswer::Ticks {
-            ticks: handled(handlers, l),
-        }
+        let ticks = handled(handlers, l);
+        let left = left(handlers, l, ticks);
+        HandlerAnswer::Ticks { ticks, left }
     } else {
-        DemandAnswer::Refused { number }
+        HandlerAnswer::Refused { number }
     }
 }
 
@@ -61,7 +67,7 @@ pub fn task_demand(tasks: &[u32], handlers: &[u32], l: u64) -> DemandAnswer
     }
 }
 
-// Margin at l: l - f(l) - D(l), below 0 exactly where the interval fails.
+// Margin at l: l - f(l) - D(l), below 0 exactly where the interval fails, and the work that handlers leave over.
 pub fn margin(tasks: &[u32], handlers: &[u32], l: u64) -> MarginAnswer
     ensures { λ r. ⌜ MarginSays (askedRefusal (now (tasks .entry)) (now (handlers .entry)) l)
         (tasksOf (now (tasks .entry))) (handlersOf (now (handlers .entry))) l r ⌝ }
@@ -70,12 +76,22 @@ pub fn margin(tasks: &[u32], handlers: &[u32], l: u64) -> MarginAnswer
     if number == 0 {
         let f = handled(handlers, l);
         let d = rows::due(tasks, l);
+        let left = left(handlers, l, f);
         MarginAnswer::Ticks {
             ticks: signed::less_both(l, f, d),
+            left,
         }
     } else {
         MarginAnswer::Refused { number }
     }
+}
+
+// The work that handlers leave over at the end of l ticks, of which they take f.
+fn left(handlers: &[u32], l: u64, f: u64) -> u64
+    requires { ⌜ Small (handlersOf (now handlers)) l × (f ≡ handled (handlersOf (now handlers)) l) ⌝ }
+    ensures { λ r. ⌜ r ≡ left (handlersOf (now (handlers .entry))) l ⌝ }
+{
+    rows::called(Kind::Handler, handlers, l) - f
 }
 
 // f at l: whole periods of the handlers are counted, and only the rest is walked. A period above the limit is longer than l.

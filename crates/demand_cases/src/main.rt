@@ -1,5 +1,6 @@
 // Asks both demands and the margin of a list of tables, refused ones among them, and prints the figures.
 use demand::DemandAnswer;
+use demand::HandlerAnswer;
 use demand::MarginAnswer;
 use libc::STDOUT_FILENO;
 
@@ -15,6 +16,25 @@ fn print_demand(answer: DemandAnswer) {
     }
 }
 
+// The work that handlers leave over.
+fn print_left(left: u64) {
+    io::write_all(STDOUT_FILENO, b" leaving ");
+    io::print_decimal(STDOUT_FILENO, left);
+}
+
+fn print_handler(answer: HandlerAnswer) {
+    match answer {
+        HandlerAnswer::Ticks { ticks, left } => {
+            io::print_decimal(STDOUT_FILENO, ticks);
+            print_left(left);
+        }
+        HandlerAnswer::Refused { number } => {
+            io::write_all(STDOUT_FILENO, b"refused ");
+            io::print_decimal(STDOUT_FILENO, number as u64);
+        }
+    }
+}
+
 // How far z is from 0.
 fn distance(z: i64) -> u64 {
     if z < 0 { (-1 - z) as u64 + 1 } else { z as u64 }
@@ -22,11 +42,12 @@ fn distance(z: i64) -> u64 {
 
 fn print_margin(answer: MarginAnswer) {
     match answer {
-        MarginAnswer::Ticks { ticks } => {
+        MarginAnswer::Ticks { ticks, left } => {
             if ticks < 0 {
                 io::write_all(STDOUT_FILENO, b"-");
             }
             io::print_decimal(STDOUT_FILENO, distance(ticks));
+            print_left(left);
         }
         MarginAnswer::Refused { number } => {
             io::write_all(STDOUT_FILENO, b"refused ");
@@ -41,7 +62,7 @@ fn ask(what: &[u8], tasks: &[u32], handlers: &[u32], l: u64) {
     io::write_all(STDOUT_FILENO, b" at ");
     io::print_decimal(STDOUT_FILENO, l);
     io::write_all(STDOUT_FILENO, b": f ");
-    print_demand(demand::handler_demand(tasks, handlers, l));
+    print_handler(demand::handler_demand(tasks, handlers, l));
     io::write_all(STDOUT_FILENO, b", D ");
     print_demand(demand::task_demand(tasks, handlers, l));
     io::write_all(STDOUT_FILENO, b", margin ");

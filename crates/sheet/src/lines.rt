@@ -21,7 +21,7 @@ fn with_word(text: Text, answer: Answer) -> Text
 pub fn of_answer(answer: Answer) -> Text
     ensures { λ r. ⌜ r ≡ textOf (printed (figures answer)) ⌝ }
 {
-    let head = text::of(b"verdict,code,interval,handler,task,load\r\n");
+    let head = text::of(b"verdict,code,interval,handler,task,load,left\r\n");
     let named = with_word(head, answer);
     let numbers = verdict::numbers(answer);
     text::puts(text::fields(named, &numbers[1..]), b"\r\n")

@@ -2,6 +2,8 @@
 --   same ps           == the two figures of each pair are the same
 --   short ts hs n     == the ticks that all lengths up to n lack in sum: 0 where each of them passes
 --   alike xs ys       == two lists of numbers are the same
+--   below0, above0    == how far a signed number is below 0, above 0
+--   beside ts hs fs   == the pairs that must be the same for the facts fs to be true of rows ts, hs
 --   facts w t h g     == the pairs that must be the same for figures g with the word w to be true of table t, h
 --   expected w t h g  == the figures that they must then be
 --   holds c           == the test of a case
@@ -10,17 +12,19 @@
 use mathlib.Core.Bool.{Bool, true, false, _&&_}
 use mathlib.Core.List.{List, [], _∷_}
 use mathlib.Core.Logic.{_⊎_, inl, inr}
-use mathlib.Core.Path.{_≡_, refl}
+use mathlib.Core.Path.{_≡_, refl, ap}
 use native.Mathlib.Omega.{arith}
 use borrow.Author.Tests.{eqb-true}
 use lib.Dec.{eqb}
+use lib.IntN.{ℤ, pos, negsuc}
 use Prim.Native.Nat.{ℕ, zero, suc, _+_, _-_, _≤_, _<_}
-use Rattle.demand.specs.Demands.{called, grow, taken, handled, due, Passes}
+use Rattle.demand.specs.Demands.{called, grow, taken, handled, left, due, margin, Passes}
 use Rattle.demand.specs.Refusals.{tableTests}
 use Rattle.demand.specs.Tests.{firstRefusal}
 use Rattle.demand.specs.Rows.{Row, tasksOf, handlersOf, total, some}
 use Rattle.demand.proofs.Divide.{le-or-lt}
-use Rattle.verdict.specs.Cases.{Case, plain, cases, CaseHolds, EveryCase}
+use Rattle.verdict.specs.Cases.{Fact, Case, plain, cases, CaseHolds, EveryFact, EveryCase}
+use Rattle.verdict.specs.Cases.Fact.{calls, takes, leaves, margins, meets}
 use Rattle.verdict.specs.Inside.Search.{endBy, searchEnd}
 use Rattle.verdict.specs.Facts.{PassesTo, bound}
 use Rattle.verdict.specs.Loads.{work, whole, costs, slack, millionths, load}
@@ -70,6 +74,16 @@ alike-true (x ∷ xs) (y ∷ ys) e =
     let parts = both (eqb x y) (alike xs ys) e in
     λ i. eqb-true x y (parts .0) i ∷ alike-true xs ys (parts .1) i
 
+-- ---- a signed number by its parts
+
+abbrev pub below0 : ℤ → ℕ
+below0 (pos n) = 0
+below0 (negsuc n) = suc n
+
+abbrev pub above0 : ℤ → ℕ
+above0 (pos n) = n
+above0 (negsuc n) = 0
+
 -- ---- lengths that pass, from below
 
 unfoldable pub short : List Row → List Row → ℕ → ℕ
@@ -106,10 +120,20 @@ expected fits t h g = yesOf (load (tasksOf t) (handlersOf h))
 expected misses t h g = noOf (missAt (tasksOf t) (handlersOf h) (g .interval)) (load (tasksOf t) (handlersOf h))
 expected refused t h g = refusalOf (verdictRefusal t h)
 
+-- what is told beside a sheet, as pairs: a signed number is two, what is below 0 and what is above
+unfoldable pub beside : List Row → List Row → List Fact → List (ℕ × ℕ)
+beside ts hs [] = []
+beside ts hs (calls l n ∷ fs) = (called hs l, n) ∷ beside ts hs fs
+beside ts hs (takes l n ∷ fs) = (handled hs l, n) ∷ beside ts hs fs
+beside ts hs (leaves l n ∷ fs) = (left hs l, n) ∷ beside ts hs fs
+beside ts hs (margins l z ∷ fs) = (below0 (margin ts hs l), below0 z) ∷ (above0 (margin ts hs l), above0 z) ∷ beside ts hs fs
+beside ts hs (meets n ∷ fs) = (common ts hs, n) ∷ beside ts hs fs
+
 unfoldable pub holds : Case → Bool
 holds c =
     same (facts (c .sheet .word) (c .tasks) (c .handlers) (c .sheet))
-    && alike (numbersOf (c .sheet)) (numbersOf (expected (c .sheet .word) (c .tasks) (c .handlers) (c .sheet)))
+    && (alike (numbersOf (c .sheet)) (numbersOf (expected (c .sheet .word) (c .tasks) (c .handlers) (c .sheet)))
+    && same (beside (tasksOf (c .tasks)) (handlersOf (c .handlers)) (c .beside)))
 
 -- A sheet whose facts hold and whose figures are those expected is what the promise says.
 says-by : (w : Word) (t h : List ℕ) (g : Figures) → g .word ≡ w → Same (facts w t h g) → numbersOf g ≡ numbersOf (expected w t h g) → SaysBy w t h g
@@ -133,6 +157,22 @@ says-by refused t h g word (unreadable, _) numbers = record {
   figures = figures-same g (refusalOf (verdictRefusal t h)) word numbers;
 }
 
+-- Signed numbers of one sign and one size are the same.
+signed-same : (x y : ℤ) → below0 x ≡ below0 y → above0 x ≡ above0 y → x ≡ y
+signed-same (pos m) (pos n) e f = ap pos f
+signed-same (pos m) (negsuc n) e f = absurd (omega arith)
+signed-same (negsuc m) (pos n) e f = absurd (omega arith)
+signed-same (negsuc m) (negsuc n) e f = let same : m ≡ n = omega arith in ap negsuc same
+
+facts-told : (ts hs : List Row) (fs : List Fact) → Same (beside ts hs fs) → EveryFact ts hs fs
+unfolding beside
+facts-told ts hs [] s = tt
+facts-told ts hs (calls l n ∷ fs) s = (s .0, facts-told ts hs fs (s .1))
+facts-told ts hs (takes l n ∷ fs) s = (s .0, facts-told ts hs fs (s .1))
+facts-told ts hs (leaves l n ∷ fs) s = (s .0, facts-told ts hs fs (s .1))
+facts-told ts hs (margins l z ∷ fs) s = (signed-same (margin ts hs l) z (s .0) (s .1 .0), facts-told ts hs fs (s .1 .1))
+facts-told ts hs (meets n ∷ fs) s = (s .0, facts-told ts hs fs (s .1))
+
 -- A case whose test holds is what the promise says, and whatever the promise allows has its figures.
 pub holds-says : (c : Case) → holds c ≡ true → CaseHolds c
 unfolding holds Says VerdictSays
@@ -140,9 +180,16 @@ holds-says c e =
     let t = c .tasks in
     let h = c .handlers in
     let g = c .sheet in
-    let tested = both (same (facts (g .word) t h g)) (alike (numbersOf g) (numbersOf (expected (g .word) t h g))) e in
-    let says : Says t h g = says-by (g .word) t h g refl (same-true (facts (g .word) t h g) (tested .0)) (alike-true (numbersOf g) (numbersOf (expected (g .word) t h g)) (tested .1)) in
-    record { holds = says; only = λ r s. says-unique t h (figures r) g s says }
+    let numbers = numbersOf (expected (g .word) t h g) in
+    let told = beside (tasksOf t) (handlersOf h) (c .beside) in
+    let first = both (same (facts (g .word) t h g)) (alike (numbersOf g) numbers && same told) e in
+    let rest = both (alike (numbersOf g) numbers) (same told) (first .1) in
+    let says : Says t h g = says-by (g .word) t h g refl (same-true (facts (g .word) t h g) (first .0)) (alike-true (numbersOf g) numbers (rest .0)) in
+    record {
+      holds = says;
+      only = λ r s. says-unique t h (figures r) g s says;
+      facts = facts-told (tasksOf t) (handlersOf h) (c .beside) (same-true told (rest .1));
+    }
 
 -- ---- all of them
 
@@ -159,7 +206,7 @@ every-case (c ∷ cs) e =
 
 -- The one computation: here the definitions are opened, crate demand's too, since only numbers are left to find.
 all-hold : allHold cases ≡ true
-unfolding allHold holds same facts alike expected short plain cases searchEnd bound endBy verdictRefusal firstRefusal tableTests load whole work costs slack millionths common lcmFrom lcm gcd euclid handled called taken grow due total some tasksOf handlersOf
+unfolding allHold holds same facts alike expected beside short plain cases searchEnd bound endBy verdictRefusal firstRefusal tableTests load whole work costs slack millionths common lcmFrom lcm gcd euclid handled called left margin taken grow due total some tasksOf handlersOf
 all-hold = refl
 
 pub cases-hold : EveryCase cases

@@ -4,7 +4,7 @@ use mathlib.Core.Logic.{_⊎_, inl, inr}
 use mathlib.Core.Path.{_≡_, refl, sym}
 use native.Mathlib.Omega.{arith}
 use Prim.Native.Nat.{ℕ, _+_, _*_, _≤_, _<_}
-use Rattle.demand.specs.Demands.{handled, due, Passes, Fails}
+use Rattle.demand.specs.Demands.{handled, left, due, Passes, Fails}
 use Rattle.demand.specs.Refusals.{tableTests}
 use Rattle.demand.specs.Tests.{firstRefusal}
 use Rattle.demand.specs.Rows.{Row, tasksOf, handlersOf, total, some}
@@ -64,6 +64,11 @@ below l short = go (passes-or-fails ts [] l)
         let known : 999999000 * due ts l ≤ l * 999999001 + 0 = rw (h-is, w-is, slack-is) at share in
         absurd (omega (arith, known, none l))
 
+-- No handler leaves work over.
+nothing-left : left [] 999999000 ≡ 0
+unfolding left
+nothing-left = omega (arith, called-nil 999999000)
+
 says : Says (dyeHouse .tasks) (dyeHouse .handlers) (dyeHouse .sheet)
 unfolding Says SaysBy dyeHouse handlersOf
 says = record {
@@ -73,9 +78,9 @@ says = record {
     fails = omega (arith, due-is);
     least = λ m from less. below m less;
   };
-  figures = λ i. noOf (record { interval = 999999000; handler = sym (none 999999000) i; task = sym due-is i }) (sym load-is i);
+  figures = λ i. noOf (record { interval = 999999000; handler = sym (none 999999000) i; task = sym due-is i; left = sym nothing-left i }) (sym load-is i);
 }
 
 pub dye-house : CaseHolds dyeHouse
-unfolding VerdictSays
-dye-house = record { holds = says; only = λ r s. says-unique (dyeHouse .tasks) (dyeHouse .handlers) (figures r) (dyeHouse .sheet) s says }
+unfolding VerdictSays dyeHouse
+dye-house = record { holds = says; only = λ r s. says-unique (dyeHouse .tasks) (dyeHouse .handlers) (figures r) (dyeHouse .sheet) s says; facts = tt }

@@ -23,6 +23,7 @@ figures-same f g word numbers = λ i. record {
   handler = getD (numbers i) 2 0;
   task = getD (numbers i) 3 0;
   load = getD (numbers i) 4 0;
+  left = getD (numbers i) 5 0;
 }
 
 module _ (t h : List ℕ) (f g : Figures) where
@@ -75,7 +76,7 @@ figures-once (answer.Fits l) (answer.Misses a m) e = cc (ap (λ (f : Figures). f
 figures-once (answer.Fits l) (answer.Refused k) e = cc (ap (λ (f : Figures). f .word) e)
 figures-once (answer.Misses a l) (answer.Fits m) e = cc (ap (λ (f : Figures). f .word) e)
 figures-once (answer.Misses a l) (answer.Misses b m) e =
-    λ i. answer.Misses (record { interval = e i .interval; handler = e i .handler; task = e i .task }) (e i .load)
+    λ i. answer.Misses (record { interval = e i .interval; handler = e i .handler; task = e i .task; left = e i .left }) (e i .load)
 figures-once (answer.Misses a l) (answer.Refused k) e = cc (ap (λ (f : Figures). f .word) e)
 figures-once (answer.Refused k) (answer.Fits m) e = cc (ap (λ (f : Figures). f .word) e)
 figures-once (answer.Refused k) (answer.Misses b m) e = cc (ap (λ (f : Figures). f .word) e)

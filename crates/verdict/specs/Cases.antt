@@ -1,31 +1,48 @@
 -- Cases 1 to 12 (01, "Sums done by hand"), and cases with short deadlines (02, M-101): one list, one statement.
---   Case              == a table and the figures of its sheet
+--   Fact              == what 01 tells beside a sheet: A(l), f(l), A(l) - f(l), the margin at l, or H
+--   Case              == a table, the figures of its sheet and what is told beside it
 --   cases             == the twelve, then the short ones
 --   dyeHouse          == the table of M-100, whose load is the first above one million
---   CaseHolds c       the verdict's promise holds of these figures, and whatever it allows has them
+--   CaseHolds c       the verdict's promise holds of these figures, whatever it allows has them, and what is told beside them is so
 --   EveryCase cs      each case of the list holds
 use mathlib.Core.List.{List, [], _∷_}
 use mathlib.Core.Path.{_≡_}
 use Prim.Native.Nat.{ℕ}
+use lib.IntN.{ℤ, negsuc}
+use Rattle.demand.specs.Demands.{called, handled, left, margin}
+use Rattle.demand.specs.Rows.{Row, tasksOf, handlersOf}
+use Rattle.verdict.specs.Multiples.{common}
 use Rattle.verdict.specs.Promise.{Figures, figures, yesOf, noOf, refusalOf, Says, VerdictSays}
 use Rattle.verdict.specs.declared.Answer.{Answer}
+
+pub data Fact : Type 0 where
+  calls : ℕ → ℕ → Fact
+  takes : ℕ → ℕ → Fact
+  leaves : ℕ → ℕ → Fact
+  margins : ℕ → ℤ → Fact
+  meets : ℕ → Fact
 
 pub record Case : Type 0 where
   pub tasks : List ℕ
   pub handlers : List ℕ
   pub sheet : Figures
+  pub beside : List Fact
 
 abbrev yes : ℕ → Figures
 yes load = yesOf load
 
-abbrev no : ℕ → ℕ → ℕ → ℕ → Figures
-no interval handler task load = noOf (record { interval = interval; handler = handler; task = task }) load
+abbrev no : ℕ → ℕ → ℕ → ℕ → ℕ → Figures
+no interval handler task load left = noOf (record { interval = interval; handler = handler; task = task; left = left }) load
 
 abbrev refusal : ℕ → Figures
 refusal code = refusalOf code
 
 abbrev case : List ℕ → List ℕ → Figures → Case
-case t h g = record { tasks = t; handlers = h; sheet = g }
+case t h g = record { tasks = t; handlers = h; sheet = g; beside = [] }
+
+-- a case with what is told beside it
+abbrev told : List ℕ → List ℕ → Figures → List Fact → Case
+told t h g fs = record { tasks = t; handlers = h; sheet = g; beside = fs }
 
 -- the same table with three numbers for each task: the deadline is the period
 unfoldable pub plain : List ℕ → List ℕ
@@ -38,10 +55,10 @@ plain (c ∷ p ∷ t) = c ∷ p ∷ p ∷ plain t
 -- a yes; and refusal 13 with those that come before and after it.
 abbrev short : List Case
 short =
-    case (1 ∷ 4 ∷ 1 ∷ 1 ∷ 4 ∷ 1 ∷ []) [] (no 1 0 2 500000)
+    case (1 ∷ 4 ∷ 1 ∷ 1 ∷ 4 ∷ 1 ∷ []) [] (no 1 0 2 500000 0)
     ∷ case (1 ∷ 4 ∷ 1 ∷ 1 ∷ 4 ∷ 2 ∷ []) [] (yes 500000)
-    ∷ case (2 ∷ 5 ∷ 3 ∷ 2 ∷ 7 ∷ 4 ∷ []) (1 ∷ 10 ∷ []) (no 4 1 4 785715)
-    ∷ case (2 ∷ 10 ∷ 3 ∷ 3 ∷ 10 ∷ 5 ∷ []) (1 ∷ 20 ∷ []) (no 5 1 5 550000)
+    ∷ case (2 ∷ 5 ∷ 3 ∷ 2 ∷ 7 ∷ 4 ∷ []) (1 ∷ 10 ∷ []) (no 4 1 4 785715 0)
+    ∷ case (2 ∷ 10 ∷ 3 ∷ 3 ∷ 10 ∷ 5 ∷ []) (1 ∷ 20 ∷ []) (no 5 1 5 550000 0)
     ∷ case (1 ∷ 4 ∷ 2 ∷ 1 ∷ 4 ∷ 3 ∷ []) (1 ∷ 10 ∷ []) (yes 600000)
     ∷ case (1 ∷ 4 ∷ 0 ∷ []) [] (refusal 13)
     ∷ case (1 ∷ 4 ∷ 5 ∷ []) [] (refusal 13)
@@ -50,28 +67,45 @@ short =
     ∷ case (1 ∷ 4 ∷ 4 ∷ 1 ∷ []) [] (refusal 1)
     ∷ []
 
+-- A handler longer than the interval that fails leaves work over (02, M-106).
+abbrev leftOver : Case
+leftOver = told (plain (1 ∷ 2 ∷ [])) (5 ∷ 10 ∷ []) (no 2 2 1 1000000 3) (calls 2 5 ∷ takes 2 2 ∷ leaves 2 3 ∷ [])
+
 unfoldable pub cases : List Case
 cases =
     case (plain (1 ∷ 10 ∷ 1 ∷ 10 ∷ 1 ∷ 10 ∷ 1 ∷ 10 ∷ 1 ∷ 10 ∷ 1 ∷ 10 ∷ 1 ∷ 10 ∷ 1 ∷ 10 ∷ 1 ∷ 10 ∷ 1 ∷ 10 ∷ [])) [] (yes 1000000)
-    ∷ case (plain (2 ∷ 4 ∷ [])) (1 ∷ 2 ∷ []) (yes 1000000)
-    ∷ case (plain (1 ∷ 4 ∷ [])) (2 ∷ 3 ∷ []) (yes 916667)
-    ∷ case (plain (2 ∷ 4 ∷ [])) (2 ∷ 3 ∷ []) (no 4 3 2 1166667)
-    ∷ case (plain (1 ∷ 2 ∷ [])) (2 ∷ 10 ∷ []) (no 2 2 1 700000)
+    ∷ told (plain (2 ∷ 4 ∷ [])) (1 ∷ 2 ∷ []) (yes 1000000) (takes 4 2 ∷ [])
+    ∷ told (plain (1 ∷ 4 ∷ [])) (2 ∷ 3 ∷ []) (yes 916667) (takes 4 3 ∷ calls 4 4 ∷ leaves 4 1 ∷ [])
+    ∷ case (plain (2 ∷ 4 ∷ [])) (2 ∷ 3 ∷ []) (no 4 3 2 1166667 1)
+    ∷ case (plain (1 ∷ 2 ∷ [])) (2 ∷ 10 ∷ []) (no 2 2 1 700000 0)
     ∷ case (plain (1 ∷ 3 ∷ [])) (2 ∷ 10 ∷ []) (yes 533334)
-    ∷ case (plain (2 ∷ 4 ∷ [])) (1 ∷ 4 ∷ 1 ∷ 4 ∷ []) (yes 1000000)
-    ∷ case (plain (1 ∷ 1 ∷ [])) (1 ∷ 1000000 ∷ []) (no 1 1 1 1000001)
-    ∷ case (plain (2 ∷ 5 ∷ 4 ∷ 8 ∷ [])) (1 ∷ 4 ∷ []) (no 10 3 8 1150000)
-    ∷ case (plain (3 ∷ 2 ∷ [])) [] (no 2 0 3 1500000)
-    ∷ case (plain (1 ∷ 1000 ∷ 1 ∷ 999999 ∷ [])) [] (yes 1002)
+    ∷ told (plain (2 ∷ 4 ∷ [])) (1 ∷ 4 ∷ 1 ∷ 4 ∷ []) (yes 1000000) (takes 1 1 ∷ takes 2 2 ∷ [])
+    ∷ case (plain (1 ∷ 1 ∷ [])) (1 ∷ 1000000 ∷ []) (no 1 1 1 1000001 0)
+    ∷ told (plain (2 ∷ 5 ∷ 4 ∷ 8 ∷ [])) (1 ∷ 4 ∷ []) (no 10 3 8 1150000 0) (margins 10 (negsuc 0) ∷ [])
+    ∷ case (plain (3 ∷ 2 ∷ [])) [] (no 2 0 3 1500000 0)
+    ∷ told (plain (1 ∷ 1000 ∷ 1 ∷ 999999 ∷ [])) [] (yes 1002) (meets 999999000 ∷ [])
     ∷ case (plain (1 ∷ 1001 ∷ 1 ∷ 1000000 ∷ [])) [] (refusal 4)
+    ∷ leftOver
     ∷ short
 
 unfoldable pub dyeHouse : Case
-dyeHouse = case (plain (999 ∷ 1000 ∷ 1000 ∷ 999999 ∷ [])) [] (no 999999000 0 999999001 1000001)
+dyeHouse = case (plain (999 ∷ 1000 ∷ 1000 ∷ 999999 ∷ [])) [] (no 999999000 0 999999001 1000001 0)
+
+abbrev pub FactHolds : List Row → List Row → Fact → Type 0
+FactHolds ts hs (calls l n) = called hs l ≡ n
+FactHolds ts hs (takes l n) = handled hs l ≡ n
+FactHolds ts hs (leaves l n) = left hs l ≡ n
+FactHolds ts hs (margins l z) = margin ts hs l ≡ z
+FactHolds ts hs (meets n) = common ts hs ≡ n
+
+abbrev pub EveryFact : List Row → List Row → List Fact → Type 0
+EveryFact ts hs [] = Unit
+EveryFact ts hs (f ∷ fs) = FactHolds ts hs f × EveryFact ts hs fs
 
 pub record CaseHolds (c : Case) : Type 0 where
   pub holds : Says (c .tasks) (c .handlers) (c .sheet)
   pub only : (r : Answer) → VerdictSays (c .tasks) (c .handlers) r → figures r ≡ c .sheet
+  pub facts : EveryFact (tasksOf (c .tasks)) (handlersOf (c .handlers)) (c .beside)
 
 abbrev pub EveryCase : List Case → Type 0
 EveryCase [] = Unit

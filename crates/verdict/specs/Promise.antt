@@ -12,7 +12,7 @@ use mathlib.Core.List.{List, [], _∷_, _++_}
 use mathlib.Core.Path.{_≡_}
 use Prim.Native.Nat.{ℕ, _≤_, _<_}
 use lib.Dec.{ltb}
-use Rattle.demand.specs.Demands.{handled, due, Passes, Fails}
+use Rattle.demand.specs.Demands.{handled, left, due, Passes, Fails}
 use Rattle.demand.specs.Limits.{ticksMost}
 use Rattle.demand.specs.Refusals.{tableTests}
 use Rattle.demand.specs.Rows.{Row, tasksOf, handlersOf}
@@ -49,18 +49,27 @@ pub record Figures : Type 0 where
   pub handler : ℕ
   pub task : ℕ
   pub load : ℕ
+  pub left : ℕ
 
 -- of a yes,
 abbrev pub yesOf : ℕ → Figures
-yesOf load = record { word = fits; code = 0; interval = 0; handler = 0; task = 0; load = load }
+yesOf load = record { word = fits; code = 0; interval = 0; handler = 0; task = 0; load = load; left = 0 }
 
 -- of a no,
 abbrev pub noOf : Miss → ℕ → Figures
-noOf miss load = record { word = misses; code = 0; interval = miss .interval; handler = miss .handler; task = miss .task; load = load }
+noOf miss load = record {
+  word = misses;
+  code = 0;
+  interval = miss .interval;
+  handler = miss .handler;
+  task = miss .task;
+  load = load;
+  left = miss .left;
+}
 
 -- and of a refusal: its number, all other figures 0
 abbrev pub refusalOf : ℕ → Figures
-refusalOf number = record { word = refused; code = number; interval = 0; handler = 0; task = 0; load = 0 }
+refusalOf number = record { word = refused; code = number; interval = 0; handler = 0; task = 0; load = 0; left = 0 }
 
 unfoldable pub figures : Answer → Figures
 figures (answer.Fits load) = yesOf load
@@ -69,7 +78,7 @@ figures (answer.Refused number) = refusalOf number
 
 -- the numbers of a line, in its order; for those who read numbers alone that of the word stands before them
 abbrev pub numbersOf : Figures → List ℕ
-numbersOf g = g .code ∷ g .interval ∷ g .handler ∷ g .task ∷ g .load ∷ []
+numbersOf g = g .code ∷ g .interval ∷ g .handler ∷ g .task ∷ g .load ∷ g .left ∷ []
 
 abbrev pub wordNumber : Word → ℕ
 wordNumber fits = 0
@@ -79,9 +88,9 @@ wordNumber refused = 2
 abbrev pub answerNumbers : Answer → List ℕ
 answerNumbers r = wordNumber (figures r .word) ∷ numbersOf (figures r)
 
--- What is told of an interval that fails: its length and both demands there.
+-- What is told of an interval that fails: its length, both demands there and the handlers' work left over (02, M-106).
 abbrev pub missAt : List Row → List Row → ℕ → Miss
-missAt ts hs l = record { interval = l; handler = handled hs l; task = due ts l }
+missAt ts hs l = record { interval = l; handler = handled hs l; task = due ts l; left = left hs l }
 
 -- ---- what they say
 

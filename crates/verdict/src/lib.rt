@@ -11,11 +11,12 @@ ghost use Rattle.demand.specs.Rows.{tasksOf, handlersOf};
 use demand::table::Kind;
 use search::Found;
 
-// The shortest interval that fails, with both demands there.
+// The shortest interval that fails, with both demands there and the work that handlers leave over.
 pub struct Miss {
     pub interval: u64,
     pub handler: u64,
     pub task: u64,
+    pub left: u64,
 }
 
 // Fits, misses at the shortest interval that fails, or the number of the refusal.
@@ -26,16 +27,24 @@ pub enum Answer {
 }
 
 // How many numbers tell an answer.
-pub const NUMBERS: usize = 6;
+pub const NUMBERS: usize = 7;
 
 // The numbers of an answer: that of its word (0 fits, 1 misses, 2 refused), then those of the printed line.
 pub fn numbers(answer: Answer) -> [u64; NUMBERS]
     ensures { λ r. ⌜ r ≡ answerNumbers answer ⌝ }
 {
     match answer {
-        Answer::Fits { load } => [0, 0, 0, 0, 0, load],
-        Answer::Misses { miss, load } => [1, 0, miss.interval, miss.handler, miss.task, load],
-        Answer::Refused { number } => [2, number as u64, 0, 0, 0, 0],
+        Answer::Fits { load } => [0, 0, 0, 0, 0, load, 0],
+        Answer::Misses { miss, load } => [
+            1,
+            0,
+            miss.interval,
+            miss.handler,
+            miss.task,
+            load,
+            miss.left,
+        ],
+        Answer::Refused { number } => [2, number as u64, 0, 0, 0, 0, 0],
     }
 }
 

@@ -81,6 +81,7 @@ fn search(
                 interval: n,
                 handler: p.taken,
                 task: d,
+                left: p.called - p.taken,
             };
             return Found::At { miss };
         }

@@ -79,6 +79,7 @@ fn cases() {
     judge(b"case 10", &[3, 2, 2], &[]);
     judge(b"case 11", &[1, 1000, 1000, 1, 999999, 999999], &[]);
     judge(b"case 12", &[1, 1001, 1001, 1, 1000000, 1000000], &[]);
+    judge(b"work left over", &[1, 2, 2], &[5, 10]);
 }
 
 // 64 tasks, all alike.

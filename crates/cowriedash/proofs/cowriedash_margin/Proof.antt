@@ -25,6 +25,7 @@ returns c =
       says = c .before .before .before .margin .ensures;
       code = ap (λ (a : MarginAnswer). marginFigures a .code) (sym answer);
       ticks = toZ-ofZ w64 (c .before .answer .given .0 .0) (record { sfits = c .known-told .given .0 .1 }) ∙ ap (λ (a : MarginAnswer). marginFigures a .ticks) (sym answer);
+      left = ap (λ (a : MarginAnswer). marginFigures a .left) (sym answer);
     }
 
 returns-2 : tie.Need-returns-2
@@ -36,6 +37,7 @@ returns-2 c =
       says = c .before .before .before .margin .ensures;
       code = ap (λ (a : MarginAnswer). marginFigures a .code) (sym answer);
       ticks = ap (λ (a : MarginAnswer). marginFigures a .ticks) (sym answer);
+      left = ap (λ (a : MarginAnswer). marginFigures a .left) (sym answer);
     }
 
 pub cowriedash-margin-spec : {M : Type 1} → statement M

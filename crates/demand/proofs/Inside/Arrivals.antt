@@ -36,6 +36,7 @@ module _ (q : List Entry) (p : Progress) (m : ℕ) (l : Level q p m) where
     queue = l .queue;
     ahead = ahead;
     low = omega arith;
+    called = omega (arith, come-none m q ahead);
     long = refl;
     follows = λ a f. record {
       work = λ x h. f .work x (omega (arith, l .before));
@@ -84,14 +85,15 @@ module _ (q : List Entry) (p : Progress) (m : ℕ) (l : Level q p m) where
 
 -- A walk that has come to w and then waits.
 pub come-over : (q : List Entry) (p : Progress) (r : List Entry) (w : Progress) (m : ℕ) (v : Progress) → Level r w m → length r ≡ length q
-    → ((a : ℕ → ℕ) → Follows a q p → Follows a r w) → Ahead m r → v ≡ waited w m → Come q p m r v
-come-over q p r w m v l long so-far ahead e =
+    → w .called + toCome r m ≡ p .called + toCome q m → ((a : ℕ → ℕ) → Follows a q p → Follows a r w) → Ahead m r → v ≡ waited w m → Come q p m r v
+come-over q p r w m v l long same so-far ahead e =
     let rest = come-waited r w m l v ahead e in
     record {
       at = rest .at;
       queue = rest .queue;
       ahead = rest .ahead;
       low = rest .low;
+      called = omega (arith, rest .called, same);
       long = long;
       follows = λ a f. rest .follows a (so-far a f);
     }

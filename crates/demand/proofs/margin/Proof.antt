@@ -20,17 +20,20 @@ handled-requires c κs = handlers-small _ _ _ (sym (c .before .of-question .ensu
 due-requires : tie.Need-due-requires
 due-requires c κs = tasks-small _ _ _ (sym (c .before .before .of-question .ensures) ∙ c .before .if1 .taken)
 
+left-requires : tie.Need-left-requires
+left-requires c κs = (handlers-small _ _ _ (sym (c .before .before .before .of-question .ensures) ∙ c .before .before .if1 .taken) .0, c .before .handled .ensures)
+
 less-both-requires : tie.Need-less-both-requires
 less-both-requires c κs =
-    let start = c .before .before .before .before .before .before in
-    let small = tasks-small (start .args .tasks .now) (start .args .handlers .now) _ (sym (c .before .before .before .of-question .ensures) ∙ c .before .before .if1 .taken) in
-    omega (arith, small .ticks, c .before .handled .ensures, handled-le (handlersOf (start .args .handlers .now)) (start .args .l), c .due .ensures, due-most _ _ small)
+    let start = c .before .before .before .before .before .before .before in
+    let small = tasks-small (start .args .tasks .now) (start .args .handlers .now) _ (sym (c .before .before .before .before .of-question .ensures) ∙ c .before .before .before .if1 .taken) in
+    omega (arith, small .ticks, c .before .before .handled .ensures, handled-le (handlersOf (start .args .handlers .now)) (start .args .l), c .before .due .ensures, due-most _ _ small)
 
 returns : tie.Need-returns
 returns c =
-    let answered = sym (c .before .before .before .before .of-question .ensures) ∙ c .before .before .before .if1 .taken in
+    let answered = sym (c .before .before .before .before .before .of-question .ensures) ∙ c .before .before .before .before .if1 .taken in
     let whole = toZ-ofZ w64 (c .less-both .result) (record { sfits = c .less-both .ok }) in
-    margin-answered _ _ _ _ _ answered (whole ∙ c .less-both .ensures ∙ margin-read _ _ _ _ _ (c .before .before .handled .ensures) (c .before .due .ensures))
+    margin-answered _ _ _ _ _ _ answered (whole ∙ c .less-both .ensures ∙ margin-read _ _ _ _ _ (c .before .before .before .handled .ensures) (c .before .before .due .ensures)) (c .before .left .ensures)
 
 returns-2 : tie.Need-returns-2
 returns-2 c = let number = c .before .of-question .ensures in margin-refused _ _ _ _ _ (λ z. c .if1 .left (number ∙ z)) number
@@ -42,6 +45,7 @@ margin-spec =
     of-question-requires
     handled-requires
     due-requires
+    left-requires
     less-both-requires
     returns
     returns-2)

@@ -37,5 +37,6 @@ pub record Come (q : List Entry) (p : Progress) (m : ℕ) (r : List Entry) (w : 
   pub queue : Queue r
   pub ahead : Ahead m r
   pub low : w .taken ≤ w .called
+  pub called : w .called ≡ p .called + toCome q m
   pub long : length r ≡ length q
   pub follows : (a : ℕ → ℕ) → Follows a q p → Follows a r w

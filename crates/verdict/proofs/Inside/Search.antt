@@ -9,7 +9,7 @@ use lib.ListN.{length, take, drop, length-drop}
 use lib.Seq.{take-all}
 use Rattle.walk.specs.Queue.{Entry, head, next, toCome, CanTake, Taken}
 use Rattle.walk.proofs.Queue.{ahead-head, come-none, come-before}
-use Rattle.demand.specs.Demands.{called, handled, due, Passes}
+use Rattle.demand.specs.Demands.{called, handled, left, due, Passes}
 use Rattle.demand.specs.Inside.Arrivals.{outset, Level, Come}
 use Rattle.demand.specs.Inside.Events.{Placeable, Begun}
 use Rattle.demand.specs.Inside.Sizes.{Small}
@@ -132,11 +132,18 @@ module _ (ts hs : List Row) (range : InRange ts hs) (t h : List Entry) (p : Prog
           let later = come-none n t' (rw here (took .ahead)) in
           omega (arith, due-here, took .same n (omega arith), later)
 
+      -- What is called for and not taken is left over.
+      search-left : w .called - w .taken ≡ left hs n
+      unfolding left
+      search-left =
+          let called : w .called ≡ called hs n = omega (arith, come .called, so-far .follows .work n (omega (arith, next-above))) in
+          omega (arith, called, search-handled)
+
       pub search-fits : w .taken + e < 2 ^ 64
       search-fits = omega (arith, search-handled, search-due, handled-le hs n, due-most ts n small-here)
 
       -- The first deadline at which a length fails is the shortest length that does.
-      pub search-found : (end : ℕ) → n ≤ end → n < w .taken + e → FoundAt ts hs end (record { interval = n; handler = w .taken; task = e })
+      pub search-found : (end : ℕ) → n ≤ end → n < w .taken + e → FoundAt ts hs end (record { interval = n; handler = w .taken; task = e; left = w .called - w .taken })
       search-found end within fails = record {
         shortest = record {
           positive = omega (arith, next-above);
@@ -144,7 +151,7 @@ module _ (ts hs : List Row) (range : InRange ts hs) (t h : List Entry) (p : Prog
           least = λ x from m. before-next x from (omega arith);
         };
         within = within;
-        exact = λ i. record { interval = n; handler = search-handled i; task = search-due i };
+        exact = λ i. record { interval = n; handler = search-handled i; task = search-due i; left = search-left i };
       }
 
       pub search-on : w .taken + e ≤ n → Searched ts hs t' h' w e

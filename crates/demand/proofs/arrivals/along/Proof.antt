@@ -1,8 +1,8 @@
-use mathlib.Core.Path.{_≡_, refl, _∙_}
+use mathlib.Core.Path.{_≡_, refl, sym, _∙_}
 use native.Mathlib.Omega.{arith}
 use Prim.Native.Nat.{ℕ, _+_, _-_}
 use lib.ListN.{length}
-use Rattle.walk.specs.Queue.{head, next}
+use Rattle.walk.specs.Queue.{head, next, toCome}
 use Rattle.walk.proofs.Queue.{head-ahead}
 use Rattle.demand.specs.Inside.Arrivals.{Follows, Level}
 use Rattle.demand.proofs.Inside.Arrivals.{come-least, come-can, come-level, come-follows, come-later, come-over}
@@ -10,13 +10,17 @@ use Rattle.demand.proofs.arrivals.along.Statement.{statement}
 use Rattle.demand.proofs.arrivals.along.Tie as tie
 
 abbrev Inv-loop : tie.InvT-loop
-Inv-loop q₀ m w₀ q w = Level q w m × (length q ≡ length q₀) × ((a : ℕ → ℕ) → Follows a q₀ w₀ → Follows a q w)
+Inv-loop q₀ m w₀ q w =
+    Level q w m
+    × (length q ≡ length q₀)
+    × (w .called + toCome q m ≡ w₀ .called + toCome q₀ m)
+    × ((a : ℕ → ℕ) → Follows a q₀ w₀ → Follows a q w)
 
 abbrev μ-loop : tie.MeasureT-loop
 μ-loop q₀ m w₀ q w = m + 1 - next (head q)
 
 loop-holds : tie.Need-loop-holds Inv-loop μ-loop
-loop-holds c = (c .pre .0, refl, λ a f. f)
+loop-holds c = (c .pre .0, refl, refl, λ a f. f)
 
 index-1-if1 : tie.Need-index-1-if1 Inv-loop μ-loop
 index-1-if1 c = omega (arith, c .before .pre .1, c .loop .inv .1)
@@ -60,7 +64,7 @@ loop-again c =
     let start = c .before .before .before .before .before .before .before .before in
     let turn = c .before .before .before .before .before .before .before .loop in
     let took = rw (c .before .before .before .wait .ensures) at (c .before .take .ensures) in
-    rw (c .before .before .before .wait .ensures) (come-level (turn .q) (turn .w) (start .args .m) (turn .inv .0) (omega (arith, start .pre .1, turn .inv .1)) (omega arith) _ _ took, took .long ∙ turn .inv .1, λ a f. come-follows (turn .q) (turn .w) (start .args .m) (turn .inv .0) (omega (arith, start .pre .1, turn .inv .1)) (omega arith) _ _ took a (turn .inv .2 a f))
+    rw (c .before .before .before .wait .ensures) (come-level (turn .q) (turn .w) (start .args .m) (turn .inv .0) (omega (arith, start .pre .1, turn .inv .1)) (omega arith) _ _ took, took .long ∙ turn .inv .1, sym (took .same _ (omega arith)) ∙ turn .inv .2, λ a f. come-follows (turn .q) (turn .w) (start .args .m) (turn .inv .0) (omega (arith, start .pre .1, turn .inv .1)) (omega arith) _ _ took a (turn .inv .3 a f))
 
 wait-requires-2 : tie.Need-wait-requires-2 Inv-loop μ-loop
 wait-requires-2 c κs =
@@ -75,7 +79,7 @@ returns : tie.Need-returns Inv-loop μ-loop
 returns c =
     let start = c .before .before .before .before in
     let turn = c .before .before .before .loop in
-    come-over _ _ (turn .q) (turn .w) _ _ (turn .inv .0) (turn .inv .1) (turn .inv .2)
+    come-over _ _ (turn .q) (turn .w) _ _ (turn .inv .0) (turn .inv .1) (turn .inv .2) (turn .inv .3)
     (head-ahead (turn .q) (start .args .m) (turn .inv .0 .queue) (omega arith)) (c .wait2 .ensures)
 
 pub along-spec : {M : Type 1} → statement M

@@ -115,27 +115,30 @@ add-if3 c =
     let fits : next (head (turn .t)) ≤ ticksMost = omega (arith, start .pre .0 .1, c .before .before .before .before .before .before .before .before .before .before .before .before .before .before .before .if1 .taken) in
     omega (arith, search-fits (tasksOf (start .args .tasks .now)) (handlersOf (start .args .handlers .now)) range (turn .t) (turn .h) (turn .p) (turn .d) (turn .inv .0) _ refl fits _ _ (c .before .before .before .before .before .to .ensures) _ _ (c .before .before .take .ensures))
 
+sub-t35 : tie.Need-sub-t35 Inv-loop μ-loop
+sub-t35 c = c .before .before .before .before .before .before .before .to .ensures .low
+
 same-length-5 : tie.Need-same-length-5 Inv-loop μ-loop
-same-length-5 c = c .before .before .before .take .ensures .long ∙ c .before .before .before .before .before .before .before .before .before .before .before .before .before .before .before .before .before .before .loop .inv .3
+same-length-5 c = c .before .before .before .before .take .ensures .long ∙ c .before .before .before .before .before .before .before .before .before .before .before .before .before .before .before .before .before .before .before .loop .inv .3
 
 same-length-6 : tie.Need-same-length-6 Inv-loop μ-loop
-same-length-6 c = c .before .before .before .before .before .before .to .ensures .long ∙ c .before .before .before .before .before .before .before .before .before .before .before .before .before .before .before .before .before .before .loop .inv .4
+same-length-6 c = c .before .before .before .before .before .before .before .to .ensures .long ∙ c .before .before .before .before .before .before .before .before .before .before .before .before .before .before .before .before .before .before .before .loop .inv .4
 
 same-length-7 : tie.Need-same-length-7 Inv-loop μ-loop
-same-length-7 c = c .before .before .before .before .before .before .before .before .before .before .before .climb .ensures .tasks-long ∙ c .before .before .before .before .before .before .before .before .before .before .before .before .before .before .before .before .before .before .loop .inv .5 ∙ c .before .before .before .before .before .before .before .before .before .before .before .before .before .before .before .before .before .before .before .before .before .take-to .ensures .tasks-long
+same-length-7 c = c .before .before .before .before .before .before .before .before .before .before .before .before .climb .ensures .tasks-long ∙ c .before .before .before .before .before .before .before .before .before .before .before .before .before .before .before .before .before .before .before .loop .inv .5 ∙ c .before .before .before .before .before .before .before .before .before .before .before .before .before .before .before .before .before .before .before .before .before .before .take-to .ensures .tasks-long
 
 same-length-8 : tie.Need-same-length-8 Inv-loop μ-loop
-same-length-8 c = c .before .before .before .before .before .before .before .before .before .before .before .climb .ensures .handlers-long ∙ c .before .before .before .before .before .before .before .before .before .before .before .before .before .before .before .before .before .before .loop .inv .6 ∙ c .before .before .before .before .before .before .before .before .before .before .before .before .before .before .before .before .before .before .before .before .before .take-to .ensures .handlers-long
+same-length-8 c = c .before .before .before .before .before .before .before .before .before .before .before .before .climb .ensures .handlers-long ∙ c .before .before .before .before .before .before .before .before .before .before .before .before .before .before .before .before .before .before .before .loop .inv .6 ∙ c .before .before .before .before .before .before .before .before .before .before .before .before .before .before .before .before .before .before .before .before .before .before .take-to .ensures .handlers-long
 
 returns-2 : tie.Need-returns-2 Inv-loop μ-loop
 unfolding FoundSays
 returns-2 c =
-    let start = c .before .before .before .before .before .before .before .before .before .before .before .before .before .before .before .before .before .before .before .before .before .before .before .before .before .before .before in
-    let turn = c .before .before .before .before .before .before .before .before .before .before .before .before .before .before .before .before .before .before .loop in
-    let within = c .before .before .before .before .before .before .before .before .before .before .before .before .before .before .before .before .if1 .taken in
+    let start = c .before .before .before .before .before .before .before .before .before .before .before .before .before .before .before .before .before .before .before .before .before .before .before .before .before .before .before .before in
+    let turn = c .before .before .before .before .before .before .before .before .before .before .before .before .before .before .before .before .before .before .before .loop in
+    let within = c .before .before .before .before .before .before .before .before .before .before .before .before .before .before .before .before .before .if1 .taken in
     let range = refusal-in-range _ _ (start .pre .0 .0) in
     let fits : next (head (turn .t)) ≤ ticksMost = omega (arith, start .pre .0 .1, within) in
-    search-found (tasksOf (start .args .tasks .now)) (handlersOf (start .args .handlers .now)) range (turn .t) (turn .h) (turn .p) (turn .d) (turn .inv .0) _ refl fits _ _ (c .before .before .before .before .before .before .to .ensures) _ _ (c .before .before .before .take .ensures) _ (omega (arith, within)) (c .if3 .taken)
+    search-found (tasksOf (start .args .tasks .now)) (handlersOf (start .args .handlers .now)) range (turn .t) (turn .h) (turn .p) (turn .d) (turn .inv .0) _ refl fits _ _ (c .before .before .before .before .before .before .before .to .ensures) _ _ (c .before .before .before .before .take .ensures) _ (omega (arith, within)) (c .before .if3 .taken)
 
 loop-less : tie.Need-loop-less Inv-loop μ-loop
 loop-less c =
@@ -206,6 +209,7 @@ search-spec =
     to-requires
     take-requires
     add-if3
+    sub-t35
     same-length-5
     same-length-6
     same-length-7
