@@ -61,9 +61,10 @@ static void plain(search *walk, const uint32_t *t, size_t nt, const uint32_t *h,
     for (size_t i = 0; i < nh; i += 2) B += h[i] * H;
     memset(out, 0, COWRIEDASH_NUMBERS * sizeof *out);
     out[5] = 1000000 * (W / H) + (1000000 * (W % H) + (H - 1)) / H;
-    end = H < W ? H : B == 0 ? 0 : W == H ? H : (B - 1) / (H - W);
+    end = H <= W ? H : B == 0 ? 0 : (B - 1) / (H - W);
     if (H < end) end = H;
     reached = walk(t, nt, h, nh, end, looks && W < H, out);
+    out[7] = tested + out[0];
 }
 
 static double now(void) {
@@ -71,6 +72,9 @@ static double now(void) {
     clock_gettime(CLOCK_PROCESS_CPUTIME_ID, &t);
     return t.tv_sec + t.tv_nsec / 1e9;
 }
+
+/* All but the count of lengths, which a walk that does not look for the idle point has otherwise. */
+static int alike(const uint64_t *a, const uint64_t *b) { return !memcmp(a, b, 7 * sizeof *a); }
 
 static void row(const char *name, const char *word, const double best[3], int same) {
     printf("%-42s %-6s %9" PRIu64 " %11.4f ms %11.4f ms %5.2f", name, word, reached, best[0] * 1e3, best[1] * 1e3, best[0] / best[1]);
@@ -98,7 +102,7 @@ static void compare(const char *name, const uint32_t *t, size_t nt, const uint32
         if (c - b < best[1] * calls) best[1] = (c - b) / calls;
         if (old && d - c < best[2] * calls) best[2] = (d - c) / calls;
     }
-    row(name, ours[0] ? "misses" : "fits", best, !memcmp(ours, theirs, sizeof ours) && (!old || !memcmp(ours, before, sizeof ours)));
+    row(name, ours[0] ? "misses" : "fits", best, !memcmp(ours, theirs, sizeof ours) && (!old || alike(ours, before)));
 }
 
 /* A table with W below H: the lengths tested up to the end that the facts allow, and up to the idle point; then cowriedash beside the C that
@@ -119,7 +123,7 @@ static void drain(const char *name, const uint32_t *t, size_t nt, const uint32_t
     plain(carried, t, nt, h, nh, 1, theirs);
     near = reached, few = tested;
     printf("%-42s %11" PRIu64 " %11" PRIu64 " %11" PRIu64 " %11" PRIu64 " %11.4f ms %11.4f ms %7.3f%s\n", name, far, all, near, few, best[0] * 1e3,
-           best[1] * 1e3, best[0] / best[1], memcmp(ours, theirs, sizeof ours) ? "   DIFFERENT ANSWERS" : "");
+           best[1] * 1e3, best[0] / best[1], alike(ours, theirs) ? "" : "   DIFFERENT ANSWERS");
     fflush(stdout);
 }
 
@@ -160,7 +164,7 @@ static void dense(uint32_t *t, uint32_t *h, uint32_t a, uint32_t p, uint32_t b, 
 }
 
 /* 32 tasks of one period, 31 of another and one that fills the rest; 16 handlers. Deadlines are the periods, or no two alike. */
-static void alike(uint32_t *t, uint32_t *h, uint32_t c, uint32_t p, uint32_t q, uint32_t shorter) {
+static void like(uint32_t *t, uint32_t *h, uint32_t c, uint32_t p, uint32_t q, uint32_t shorter) {
     for (uint32_t i = 0; i < 64; i++) {
         t[3 * i] = i % 2 ? 1 : c;
         t[3 * i + 1] = i % 2 ? q : p;
@@ -206,11 +210,11 @@ static void whole(void) {
     compare("period 2 and products of primes, W = H", t, 12, h, 0, 1, 1, 0);
     t[5] = 943906;
     compare("the same, one of them a handler", t, 9, h, 2, 1, 1, 0);
-    alike(many, few, 31, 1998, 160, 0);
+    like(many, few, 31, 1998, 160, 0);
     many[0] = 38;
     fill(many, 192, few, 32);
     compare("64 and 16 with like periods, W = H", many, 192, few, 32, 1, 1, 0);
-    alike(many, few, 31, 1998, 160, 1);
+    like(many, few, 31, 1998, 160, 1);
     many[0] = 38;
     fill(many, 192, few, 32);
     compare("the same, no two deadlines alike", many, 192, few, 32, 1, 1, 0);
@@ -236,10 +240,10 @@ int main(int argc, char **argv) {
     for (size_t i = 0; i < 64; i++) many[3 * i] = 19, many[3 * i + 1] = many[3 * i + 2] = 1000 + 250 * (i % 4);
     for (size_t i = 0; i < 32; i += 2) few[i] = 3, few[i + 1] = 500 + 125 * (i % 4);
     compare("64 tasks and 16 handlers, overfull", many, 192, few, 32, 20, 500, 1);
-    alike(many, few, 1, 64, 625, 0);
+    like(many, few, 1, 64, 625, 0);
     fill(many, 192, few, 32);
     compare("64 and 16 with like periods, W = H", many, 192, few, 32, 5, 20, 1);
-    alike(many, few, 1, 64, 625, 1);
+    like(many, few, 1, 64, 625, 1);
     fill(many, 192, few, 32);
     compare("the same, no two deadlines alike", many, 192, few, 32, 2, 1, 1);
     beside(many, few);

@@ -24,11 +24,11 @@ extern "C" {
 enum { COWRIEDASH_FITS = 0, COWRIEDASH_MISSES = 1, COWRIEDASH_REFUSED = 2 };
 
 /* How many numbers a verdict has. */
-enum { COWRIEDASH_NUMBERS = 7 };
+enum { COWRIEDASH_NUMBERS = 8 };
 
 /* out: fits, misses or refused; the refusal's number (1, 2, 3, 13 or 4) or 0; the shortest interval that fails; handler demand
-   there; task demand there; the load in millionths, rounded up; the handlers' work left over at the end of that interval. What does
-   not apply is 0. */
+   there; task demand there; the load in millionths, rounded up; the handlers' work left over at the end of that interval;
+   how many test lengths there are up to the end of the search. What does not apply is 0. */
 void cowriedash_verdict(const uint32_t *tasks, size_t tasks_count, const uint32_t *handlers, size_t handlers_count,
                         uint64_t out[COWRIEDASH_NUMBERS]);
 

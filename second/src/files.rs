@@ -69,7 +69,7 @@ pub fn sheet(bytes: &[u8], patience: u128) -> Result<String, u128> {
     };
     let word = ["fits", "misses", "refused"][g[0] as usize];
     let numbers: Vec<String> = g[1..].iter().map(u64::to_string).collect();
-    Ok(format!("verdict,code,interval,handler,task,load,left\r\n{word},{}\r\n", numbers.join(",")))
+    Ok(format!("verdict,code,interval,handler,task,load,left,tested\r\n{word},{}\r\n", numbers.join(",")))
 }
 
 /// A table as text under either header, and then perhaps damaged.

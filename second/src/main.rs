@@ -21,9 +21,6 @@ use tables::Table;
 /// How far a blind search goes.
 const PATIENCE: u128 = 20_000;
 
-/// How far the idle point is looked for: each length is asked anew.
-const IDLE_PATIENCE: u128 = 2_000;
-
 #[derive(Default)]
 struct Counts {
     tables: u64,
@@ -126,7 +123,7 @@ fn judge(table: &Table, counts: &mut Counts) {
         _ => counts.refused += 1,
     }
     let Ok(figures) = model::figures(&table.tasks, &table.handlers) else { return };
-    if figures.hyper > IDLE_PATIENCE {
+    if figures.hyper > PATIENCE {
         return;
     }
     match idle::claims(&figures, want[2] as u128) {

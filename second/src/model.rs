@@ -1,11 +1,14 @@
 //! The slow second program: 01's rules read plainly, with nothing shared with the proved code.
 //! Every number is 128 bits wide; every sum is done by going through the ticks.
 
+use crate::idle;
+use std::collections::HashSet;
+
 pub const FIGURE: u128 = 1_000_000;
 pub const LIMIT: u128 = 1_000_000_000;
 
 /// How many numbers a sheet has, that of its word with them.
-pub const NUMBERS: usize = 7;
+pub const NUMBERS: usize = 8;
 
 #[derive(Clone, Copy, Debug, PartialEq)]
 pub struct Task {
@@ -139,6 +142,15 @@ pub fn figures(tasks: &[u32], handlers: &[u32]) -> Result<Figures, u32> {
     Ok(Figures { tasks, handlers, hyper, whole })
 }
 
+/// The distinct lengths up to `end` at which some task has a deadline: a set of them all.
+fn tested(tasks: &[Task], end: u128) -> u64 {
+    let mut lengths = HashSet::new();
+    for t in tasks {
+        lengths.extend((t.deadline..=end).step_by(t.period as usize));
+    }
+    lengths.len() as u64
+}
+
 /// The numbers of a refusal: all but its own are 0.
 pub fn refused(number: u32) -> [u64; NUMBERS] {
     let mut sheet = [0; NUMBERS];
@@ -146,14 +158,15 @@ pub fn refused(number: u32) -> [u64; NUMBERS] {
     sheet
 }
 
-/// The numbers of a sheet: 0 fits, 1 misses, 2 refused; code, interval, handler, task, load, left.
+/// The numbers of a sheet: 0 fits, 1 misses, 2 refused; code, interval, handler, task, load, left, tested.
 /// Where a blind search would have to go further than `patience`, the length to which it would have to go.
 pub fn verdict(tasks: &[u32], handlers: &[u32], patience: u128) -> Result<[u64; NUMBERS], u128> {
     let table = match figures(tasks, handlers) {
         Ok(table) => table,
         Err(k) => return Ok(refused(k)),
     };
-    let Figures { tasks, handlers, hyper, whole } = table;
+    let Figures { tasks, handlers, hyper, whole } = &table;
+    let (hyper, whole) = (*hyper, *whole);
     let mut load = 1_000_000 * whole / hyper;
     if load * hyper < 1_000_000 * whole {
         load += 1;
@@ -163,18 +176,18 @@ pub fn verdict(tasks: &[u32], handlers: &[u32], patience: u128) -> Result<[u64; 
     let mut f = Handled::default();
     let mut d = 0;
     for l in 1..=end {
-        f.next(&handlers);
-        for task in &tasks {
+        f.next(handlers);
+        for task in tasks {
             if l >= task.deadline && (l - task.deadline) % task.period == 0 {
                 d += task.cost;
             }
         }
         if f.ticks + d > l {
-            return Ok([1, 0, l as u64, f.ticks as u64, d as u64, load as u64, f.left() as u64]);
+            return Ok([1, 0, l as u64, f.ticks as u64, d as u64, load as u64, f.left() as u64, tested(tasks, l)]);
         }
     }
     if end < 2 * hyper {
         return Err(2 * hyper);
     }
-    Ok([0, 0, 0, 0, 0, load as u64, 0])
+    Ok([0, 0, 0, 0, 0, load as u64, 0, tested(tasks, idle::yes_end(&table))])
 }

@@ -8,7 +8,7 @@ use Rattle.demand.specs.Demands.{called, grow, taken, handled, left, due}
 use Rattle.demand.specs.Refusals.{tableRefusal, tableTests}
 use Rattle.demand.specs.Tests.{firstRefusal}
 use Rattle.demand.specs.Rows.{some, total, tasksOf, handlersOf}
-use Rattle.verdict.proofs.Cases.{same, alike, short, facts, beside, expected, holds, holds-says, cases-hold}
+use Rattle.verdict.proofs.Cases.{same, alike, short, drain, idled, idleFacts, facts, beside, expected, holds, holds-says, cases-hold}
 use Rattle.verdict.proofs.Lightening.{says-fits}
 use Rattle.verdict.specs.Cases.{Case, plain, cases}
 use Rattle.verdict.specs.Inside.Search.{endBy, searchEnd}
@@ -17,6 +17,8 @@ use Rattle.verdict.specs.Loads.{work, whole, costs, slack, millionths, load}
 use Rattle.euclid.specs.Euclid.{gcd, lcm, euclid}
 use Rattle.demand.specs.Multiples.{lcmFrom}
 use Rattle.verdict.specs.Multiples.{common}
+use Rattle.verdict.specs.Idle.{asks}
+use Rattle.verdict.specs.Tested.{tested, yesEndBy, yesEnd}
 use Rattle.verdict.specs.Promise.{figures, verdictRefusal, SaysFits, VerdictSays}
 use Rattle.verdict.specs.Promise.Word.{fits, misses}
 use Rattle.verdict.specs.declared.Answer.{Answer}
@@ -53,7 +55,7 @@ abbrev handlers-6 : List ℕ
 handlers-6 = 2 ∷ 10 ∷ []
 
 abbrev answer-6 : Answer
-answer-6 = verdict.Fits 533334
+answer-6 = verdict.Fits 533334 1
 
 says-6 : VerdictSays tasks-6 handlers-6 answer-6
 unfolding VerdictSays figures cases plain
@@ -109,7 +111,7 @@ abbrev handlers-9 : List ℕ
 handlers-9 = 1 ∷ 4 ∷ []
 
 abbrev answer-9 : Answer
-answer-9 = verdict.Misses (record { interval = 10; handler = 3; task = 8; left = 0 }) 1150000
+answer-9 = verdict.Misses (record { interval = 10; handler = 3; task = 8; left = 0; tested = 3 }) 1150000
 
 says-9 : VerdictSays tasks-9 handlers-9 answer-9
 unfolding VerdictSays figures cases plain
@@ -165,13 +167,13 @@ abbrev handlers-2 : List ℕ
 handlers-2 = 2 ∷ 10 ∷ []
 
 abbrev answer-2 : Answer
-answer-2 = verdict.Misses (record { interval = 2; handler = 2; task = 1; left = 0 }) 450000
+answer-2 = verdict.Misses (record { interval = 2; handler = 2; task = 1; left = 0; tested = 1 }) 450000
 
 abbrev case-2 : Case
 case-2 = record { tasks = tasks-2; handlers = handlers-2; sheet = figures answer-2; beside = [] }
 
 sheet-2 : holds case-2 ≡ true
-unfolding figures holds same facts beside alike expected short searchEnd bound endBy verdictRefusal firstRefusal tableTests load whole work costs slack millionths common lcmFrom lcm gcd euclid handled called left taken grow due total some tasksOf handlersOf
+unfolding figures holds same facts beside idleFacts drain idled asks tested yesEnd yesEndBy alike expected short searchEnd bound endBy verdictRefusal firstRefusal tableTests load whole work costs slack millionths common lcmFrom lcm gcd euclid handled called left taken grow due total some tasksOf handlersOf
 sheet-2 = refl
 
 says-2 : VerdictSays tasks-2 handlers-2 answer-2
@@ -206,13 +208,13 @@ abbrev tasks-3 : List ℕ
 tasks-3 = 1 ∷ 4 ∷ 3 ∷ []
 
 abbrev answer-3 : Answer
-answer-3 = verdict.Fits 450000
+answer-3 = verdict.Fits 450000 1
 
 abbrev case-3 : Case
 case-3 = record { tasks = tasks-3; handlers = handlers-2; sheet = figures answer-3; beside = [] }
 
 sheet-3 : holds case-3 ≡ true
-unfolding figures holds same facts beside alike expected short searchEnd bound endBy verdictRefusal firstRefusal tableTests load whole work costs slack millionths common lcmFrom lcm gcd euclid handled called left taken grow due total some tasksOf handlersOf
+unfolding figures holds same facts beside idleFacts drain idled asks tested yesEnd yesEndBy alike expected short searchEnd bound endBy verdictRefusal firstRefusal tableTests load whole work costs slack millionths common lcmFrom lcm gcd euclid handled called left taken grow due total some tasksOf handlersOf
 sheet-3 = refl
 
 says-3 : VerdictSays tasks-3 handlers-2 answer-3

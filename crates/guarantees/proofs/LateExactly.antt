@@ -10,7 +10,8 @@ use Rattle.demand.proofs.Inside.Sizes.{tasks-valid, handlers-positive}
 use Rattle.demand.specs.Limits.{ticksMost}
 use Rattle.demand.specs.Refusals.{tableRefusal}
 use Rattle.demand.specs.Rows.{Row, tasksOf, handlersOf}
-use Rattle.verdict.specs.Promise.{figures, LeastFailing}
+use Rattle.verdict.specs.Lengths.{LeastFailing}
+use Rattle.verdict.specs.Promise.{figures}
 use Rattle.guarantees.specs.LegalArrivals.{Accepted}
 use Rattle.guarantees.specs.Synchronous.{beatOf, beatsTo, syncRun}
 use Rattle.guarantees.specs.LateExactly.{LateAt, LateExactly}

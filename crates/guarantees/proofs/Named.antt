@@ -13,7 +13,8 @@ use Rattle.verdict.proofs.Facts.Ends.{end-enough, end-le}
 use Rattle.verdict.proofs.Lengths.{fits-never-fails}
 use Rattle.verdict.proofs.Readable.{readable-in-range, readable-common, readable-table}
 use Rattle.verdict.specs.Multiples.{common}
-use Rattle.verdict.specs.Promise.{Word, Figures, figures, LeastFailing, SaysMisses, SaysBy, Says, VerdictSays}
+use Rattle.verdict.specs.Lengths.{LeastFailing}
+use Rattle.verdict.specs.Promise.{Word, Figures, figures, SaysMisses, SaysBy, Says, VerdictSays}
 use Rattle.verdict.specs.Promise.Word.{misses}
 use Rattle.verdict.specs.declared.Answer.{Answer}
 

@@ -11,7 +11,8 @@ use Rattle.demand.specs.Refusals.{tableRefusal}
 use Rattle.demand.specs.Rows.{Row, Positive, Valid, tasksOf, handlersOf}
 use Rattle.verdict.proofs.Readable.{readable-table}
 use Rattle.verdict.proofs.Lightening.{says-fits}
-use Rattle.verdict.specs.Promise.{figures, SaysFits, VerdictSays, AlwaysPasses}
+use Rattle.verdict.specs.Lengths.{AlwaysPasses}
+use Rattle.verdict.specs.Promise.{figures, SaysFits, VerdictSays}
 use Rattle.guarantees.specs.NeverLate.{NeverLate}
 use Rattle.machine.specs.Live.{dueOf}
 use Rattle.scheduler.specs.Reached.{offeredBy, offered, WellMade}

@@ -8,7 +8,8 @@ use Rattle.demand.specs.Refusals.{tableRefusal}
 use Rattle.demand.specs.Rows.{Row, tasksOf, handlersOf}
 use Rattle.verdict.proofs.Readable.{readable-table}
 use Rattle.verdict.proofs.Lightening.{says-fits}
-use Rattle.verdict.specs.Promise.{Word, figures, AlwaysPasses, SaysFits, SaysBy, Says, VerdictSays}
+use Rattle.verdict.specs.Lengths.{AlwaysPasses}
+use Rattle.verdict.specs.Promise.{Word, figures, SaysFits, SaysBy, Says, VerdictSays}
 use Rattle.verdict.specs.Promise.Word.{fits, misses, refused}
 use Rattle.verdict.specs.declared.Answer.{Answer}
 use Rattle.guarantees.specs.NoScheduler.{NoScheduler, OursIsOne, Met, Optimal}

@@ -48,7 +48,7 @@ fourReads = record {
 -- ---- and what is printed
 
 sheet : Figures
-sheet = noOf (record { interval = 10; handler = 3; task = 8; left = 0 }) 1150000
+sheet = noOf (record { interval = 10; handler = 3; task = 8; left = 0; tested = 3 }) 1150000
 
 judged : TableFigures false (2 ∷ 5 ∷ 5 ∷ 4 ∷ 8 ∷ 8 ∷ []) (1 ∷ 4 ∷ []) sheet
 unfolding TableFigures sheet cases plain

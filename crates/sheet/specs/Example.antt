@@ -27,7 +27,7 @@ caseNineFour =
     ++ ascii "handler,1,4," ++ crlf
 
 abbrev pub caseNineSheet : List ℕ
-caseNineSheet = ascii "verdict,code,interval,handler,task,load,left" ++ crlf ++ ascii "misses,0,10,3,8,1150000,0" ++ crlf
+caseNineSheet = ascii "verdict,code,interval,handler,task,load,left,tested" ++ crlf ++ ascii "misses,0,10,3,8,1150000,0,3" ++ crlf
 
 abbrev pub Prints : List ℕ → List ℕ → Type 0
 Prints bs ls = (out : Output) → SheetSays bs out → out ≡ record { text = textOf ls; refusal = 0 }

@@ -12,7 +12,7 @@ use Rattle.verdict.specs.Promise.{Figures, Word, numbersOf}
 use Rattle.verdict.specs.Promise.Word.{fits, misses, refused}
 
 abbrev pub heading : List ℕ
-heading = ascii "verdict,code,interval,handler,task,load,left"
+heading = ascii "verdict,code,interval,handler,task,load,left,tested"
 
 abbrev pub wordText : Word → List ℕ
 wordText fits = ascii "fits"

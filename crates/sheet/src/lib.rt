@@ -62,8 +62,8 @@ fn refusal_of(answer: Answer) -> u32
     ensures { λ r. ⌜ r ≡ figures answer .code ⌝ }
 {
     match answer {
-        Answer::Fits { load: _ } => 0,
-        Answer::Misses { miss: _, load: _ } => 0,
+        Answer::Fits { .. } => 0,
+        Answer::Misses { .. } => 0,
         Answer::Refused { number } => number,
     }
 }

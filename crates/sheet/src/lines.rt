@@ -11,9 +11,9 @@ fn with_word(text: Text, answer: Answer) -> Text
     ensures { λ r. ⌜ r ≡ putsOf text (wordText (figures answer .word)) ⌝ }
 {
     match answer {
-        Answer::Fits { load: _ } => text::puts(text, b"fits"),
-        Answer::Misses { miss: _, load: _ } => text::puts(text, b"misses"),
-        Answer::Refused { number: _ } => text::puts(text, b"refused"),
+        Answer::Fits { .. } => text::puts(text, b"fits"),
+        Answer::Misses { .. } => text::puts(text, b"misses"),
+        Answer::Refused { .. } => text::puts(text, b"refused"),
     }
 }
 
@@ -21,7 +21,7 @@ fn with_word(text: Text, answer: Answer) -> Text
 pub fn of_answer(answer: Answer) -> Text
     ensures { λ r. ⌜ r ≡ textOf (printed (figures answer)) ⌝ }
 {
-    let head = text::of(b"verdict,code,interval,handler,task,load,left\r\n");
+    let head = text::of(b"verdict,code,interval,handler,task,load,left,tested\r\n");
     let named = with_word(head, answer);
     let numbers = verdict::numbers(answer);
     text::puts(text::fields(named, &numbers[1..]), b"\r\n")

@@ -4,6 +4,7 @@
 --   alike xs ys       == two lists of numbers are the same
 --   below0, above0    == how far a signed number is below 0, above 0
 --   beside ts hs fs   == the pairs that must be the same for the facts fs to be true of rows ts, hs
+--   drain fuel ts hs n, idled ts hs z, idleFacts ts hs z   == the idle point from n on, and the pairs that tell it
 --   facts w t h g     == the pairs that must be the same for figures g with the word w to be true of table t, h
 --   expected w t h g  == the figures that they must then be
 --   holds c           == the test of a case
@@ -12,21 +13,23 @@
 use mathlib.Core.Bool.{Bool, true, false, _&&_}
 use mathlib.Core.List.{List, [], _∷_}
 use mathlib.Core.Logic.{_⊎_, inl, inr}
-use mathlib.Core.Path.{_≡_, refl, ap}
+use mathlib.Core.Path.{_≡_, refl, ap, sym, _∙_}
 use native.Mathlib.Omega.{arith}
 use borrow.Author.Tests.{eqb-true}
-use lib.Dec.{eqb}
+use lib.Dec.{eqb, leb}
 use lib.IntN.{ℤ, pos, negsuc}
 use Prim.Native.Nat.{ℕ, zero, suc, _+_, _-_, _≤_, _<_}
 use Rattle.demand.specs.Demands.{called, grow, taken, handled, left, due, margin, Passes}
 use Rattle.demand.specs.Refusals.{tableTests}
-use Rattle.demand.specs.Tests.{firstRefusal}
+use Rattle.demand.specs.Tests.{pick, firstRefusal}
 use Rattle.demand.specs.Rows.{Row, tasksOf, handlersOf, total, some}
 use Rattle.demand.proofs.Divide.{le-or-lt}
 use Rattle.verdict.specs.Cases.{Fact, Case, plain, cases, CaseHolds, EveryFact, EveryCase}
 use Rattle.verdict.specs.Cases.Fact.{calls, takes, leaves, margins, meets}
 use Rattle.verdict.specs.Inside.Search.{endBy, searchEnd}
 use Rattle.verdict.specs.Facts.{PassesTo, bound}
+use Rattle.verdict.specs.Idle.{asks}
+use Rattle.verdict.specs.Tested.{tested, yesEndBy, yesEnd}
 use Rattle.verdict.specs.Loads.{work, whole, costs, slack, millionths, load}
 use Rattle.euclid.specs.Euclid.{gcd, lcm, euclid}
 use Rattle.demand.specs.Multiples.{lcmFrom}
@@ -100,13 +103,38 @@ short-zero ts hs (suc n) e l from within = go (short-zero ts hs n (omega arith))
     go below (inl h) = below l from h
     go below (inr h) = let last : l ≡ suc n = omega arith in rw last (omega arith)
 
+-- ---- the idle point, from below
+
+unfoldable pub drain : ℕ → List Row → List Row → ℕ → ℕ
+drain zero ts hs n = n
+drain (suc fuel) ts hs n = pick (leb (asks ts hs n) n) n (drain fuel ts hs (suc n))
+
+-- how far the lengths from 1 to below n are from not having drained, in sum: 0 where none has
+unfoldable pub idled : List Row → List Row → ℕ → ℕ
+idled ts hs zero = 0
+idled ts hs (suc zero) = 0
+idled ts hs (suc (suc n)) = idled ts hs (suc n) + (suc (suc n) - asks ts hs (suc n))
+
+idled-zero : (ts hs : List Row) (z : ℕ) → idled ts hs z ≡ 0 → (l : ℕ) → 1 ≤ l → l < z → l < asks ts hs l
+unfolding idled
+idled-zero ts hs zero e l from below = absurd (omega arith)
+idled-zero ts hs (suc zero) e l from below = absurd (omega arith)
+idled-zero ts hs (suc (suc n)) e l from below = go (idled-zero ts hs (suc n) (omega arith)) (le-or-lt (suc n) l)
+  where
+    go : ((m : ℕ) → 1 ≤ m → m < suc n → m < asks ts hs m) → (suc n ≤ l) ⊎ (l < suc n) → l < asks ts hs l
+    go busy (inl last) = let same : l ≡ suc n = omega arith in rw same (omega arith)
+    go busy (inr before) = busy l from before
+
+unfoldable pub idleFacts : List Row → List Row → ℕ → List (ℕ × ℕ)
+idleFacts ts hs z = (1 - z, 0) ∷ (asks ts hs z - z, 0) ∷ (idled ts hs z, 0) ∷ []
+
 -- ---- the test of a sheet
 
 unfoldable pub facts : Word → List ℕ → List ℕ → Figures → List (ℕ × ℕ)
 facts fits t h g =
     (verdictRefusal t h, 0)
     ∷ (short (tasksOf t) (handlersOf h) (searchEnd (tasksOf t) (handlersOf h)), 0)
-    ∷ []
+    ∷ idleFacts (tasksOf t) (handlersOf h) (drain 64 (tasksOf t) (handlersOf h) 1)
 facts misses t h g =
     (verdictRefusal t h, 0)
     ∷ (1 - g .interval, 0)
@@ -116,7 +144,8 @@ facts misses t h g =
 facts refused t h g = (1 - verdictRefusal t h, 0) ∷ []
 
 unfoldable pub expected : Word → List ℕ → List ℕ → Figures → Figures
-expected fits t h g = yesOf (load (tasksOf t) (handlersOf h))
+expected fits t h g =
+    yesOf (load (tasksOf t) (handlersOf h)) (tested (tasksOf t) (yesEnd (tasksOf t) (handlersOf h) (drain 64 (tasksOf t) (handlersOf h) 1)))
 expected misses t h g = noOf (missAt (tasksOf t) (handlersOf h) (g .interval)) (load (tasksOf t) (handlersOf h))
 expected refused t h g = refusalOf (verdictRefusal t h)
 
@@ -137,12 +166,23 @@ holds c =
 
 -- A sheet whose facts hold and whose figures are those expected is what the promise says.
 says-by : (w : Word) (t h : List ℕ) (g : Figures) → g .word ≡ w → Same (facts w t h g) → numbersOf g ≡ numbersOf (expected w t h g) → SaysBy w t h g
-unfolding facts expected SaysBy
-says-by fits t h g word (readable, (passes, _)) numbers = record {
-  readable = readable;
-  passes = end-enough (tasksOf t) (handlersOf h) (readable-in-range t h readable) (short-zero (tasksOf t) (handlersOf h) (searchEnd (tasksOf t) (handlersOf h)) passes);
-  figures = figures-same g (yesOf (load (tasksOf t) (handlersOf h))) word numbers;
-}
+unfolding facts expected SaysBy idleFacts
+says-by fits t h g word (readable, (passes, (positive, (room, (busy, _))))) numbers =
+    let ts = tasksOf t in
+    let hs = handlersOf h in
+    let z = drain 64 ts hs 1 in
+    let told : g ≡ yesOf (load ts hs) (tested ts (yesEnd ts hs z)) = figures-same g (yesOf (load ts hs) (tested ts (yesEnd ts hs z))) word numbers in
+    let count : g .tested ≡ tested ts (yesEnd ts hs z) = ap (λ (f : Figures). f .tested) told in
+    record {
+      readable = readable;
+      passes = end-enough ts hs (readable-in-range t h readable) (short-zero ts hs (searchEnd ts hs) passes);
+      count = record {
+        point = z;
+        idle = record { positive = omega arith; room = omega arith; least = idled-zero ts hs z busy };
+        count = count;
+      };
+      figures = told ∙ ap (yesOf (load ts hs)) (sym count);
+    }
 says-by misses t h g word (readable, (positive, (fails, (below, _)))) numbers = record {
   readable = readable;
   shortest = record {
@@ -206,7 +246,7 @@ every-case (c ∷ cs) e =
 
 -- The one computation: here the definitions are opened, crate demand's too, since only numbers are left to find.
 all-hold : allHold cases ≡ true
-unfolding allHold holds same facts alike expected beside short plain cases searchEnd bound endBy verdictRefusal firstRefusal tableTests load whole work costs slack millionths common lcmFrom lcm gcd euclid handled called left margin taken grow due total some tasksOf handlersOf
+unfolding allHold holds same facts alike expected beside idleFacts drain idled asks tested yesEnd yesEndBy short plain cases searchEnd bound endBy verdictRefusal firstRefusal tableTests load whole work costs slack millionths common lcmFrom lcm gcd euclid handled called left margin taken grow due total some tasksOf handlersOf
 all-hold = refl
 
 pub cases-hold : EveryCase cases

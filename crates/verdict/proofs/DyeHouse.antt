@@ -14,6 +14,7 @@ use Rattle.verdict.specs.Loads.{work, whole, slack, millionths, load}
 use Rattle.euclid.specs.Euclid.{gcd, lcm, euclid}
 use Rattle.demand.specs.Multiples.{lcmFrom}
 use Rattle.verdict.specs.Multiples.{common}
+use Rattle.verdict.specs.Tested.{tested}
 use Rattle.verdict.specs.Promise.{figures, noOf, verdictRefusal, SaysBy, Says, VerdictSays}
 use Rattle.verdict.proofs.Divisors.{common-tasks}
 use Rattle.verdict.proofs.Promise.{says-unique}
@@ -78,7 +79,7 @@ says = record {
     fails = omega (arith, due-is);
     least = λ m from less. below m less;
   };
-  figures = λ i. noOf (record { interval = 999999000; handler = sym (none 999999000) i; task = sym due-is i; left = sym nothing-left i }) (sym load-is i);
+  figures = λ i. noOf (record { interval = 999999000; handler = sym (none 999999000) i; task = sym due-is i; left = sym nothing-left i; tested = tested ts 999999000 }) (sym load-is i);
 }
 
 pub dye-house : CaseHolds dyeHouse

@@ -16,12 +16,13 @@ use Rattle.demand.specs.Rows.{Row, Each, Positive, Valid}
 use Rattle.demand.proofs.Demands.{called-cons, called-mono}
 use Rattle.demand.proofs.Divide.{le-or-lt, le-ceil-mul}
 use Rattle.demand.proofs.Inside.Sizes.{fair-positive}
+use Rattle.demand.specs.Tests.{pick}
 use Rattle.verdict.specs.Facts.{PassesTo}
 use Rattle.verdict.specs.Inside.Search.{searchEnd}
 use Rattle.verdict.specs.Idle.{asks, Idle, IdleBy, NoIdle, IdleEnds, IdleWhere}
 use Rattle.verdict.specs.Loads.{work, whole}
 use Rattle.verdict.specs.Multiples.{common}
-use Rattle.verdict.specs.Promise.{AlwaysPasses, LeastFailing}
+use Rattle.verdict.specs.Lengths.{AlwaysPasses, LeastFailing}
 use Rattle.verdict.proofs.Divisors.{common-positive, common-tasks, common-handlers, common-least}
 use Rattle.verdict.proofs.Facts.Drain.{drain-ends}
 use Rattle.verdict.proofs.Facts.Ends.{end-enough}
@@ -216,12 +217,11 @@ module _ (ts hs : List Row) (fair : InRange ts hs) where
 
   -- So may one that looks for the idle point where W is below H, and only there.
   pub looked-enough : (looks : Bool) → ltb (whole ts hs) (common ts hs) ≡ looks
-      → ((z : ℕ) → (looks ≡ true → Idle ts hs z) → PassesTo ts hs (min z (searchEnd ts hs))) → AlwaysPasses ts hs
+      → ((z : ℕ) → (looks ≡ true → Idle ts hs z) → PassesTo ts hs (pick looks (min z (searchEnd ts hs)) (searchEnd ts hs))) → AlwaysPasses ts hs
   looked-enough true light passes =
       let by : IdleBy ts hs (common ts hs) = idle-where .light (omega (arith, ltb-true (whole ts hs) (common ts hs) light)) in
       idle-enough (by .point) (by .idle) (passes (by .point) (λ _. by .idle))
-  looked-enough false light passes =
-      end-enough ts hs fair (λ l from within. passes (searchEnd ts hs) (λ looks. absurd (true≢false (sym looks))) l from (omega (arith, within)))
+  looked-enough false light passes = end-enough ts hs fair (passes 0 (λ looks. absurd (true≢false (sym looks))))
 
 -- Some task asks for something at once.
 pub asks-some : (ts hs : List Row) → InRange ts hs → 1 ≤ asks ts hs 1

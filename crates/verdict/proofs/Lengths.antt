@@ -11,8 +11,7 @@ use Rattle.demand.specs.Rows.{Row, Each, Valid}
 use Rattle.demand.proofs.Between.{due-next, passes-flat}
 use Rattle.demand.proofs.Demands.{passes-zero}
 use Rattle.demand.proofs.Divide.{le-or-lt}
-use Rattle.verdict.specs.Lengths.{TestLength}
-use Rattle.verdict.specs.Promise.{AlwaysPasses, LeastFailing}
+use Rattle.verdict.specs.Lengths.{TestLength, AlwaysPasses, LeastFailing}
 
 -- l is a deadline of no row
 abbrev pub NoDeadline : List Row → ℕ → Type 0

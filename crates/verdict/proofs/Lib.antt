@@ -6,6 +6,8 @@ pub mod Lengths
 pub mod Promise
 pub mod Idle
 pub mod IdleCases
+pub mod Tested
+pub mod YesEnds
 pub mod Lightening
 pub mod Full
 pub mod Cases

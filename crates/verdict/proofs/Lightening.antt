@@ -9,7 +9,8 @@ use Rattle.demand.specs.Rows.{Row, Positive, tasksOf, handlersOf}
 use Rattle.demand.proofs.Lighter.{passes-lighter}
 use Rattle.demand.proofs.Inside.Sizes.{fair-positive}
 use Rattle.verdict.specs.Lightening.{YesUnderLess}
-use Rattle.verdict.specs.Promise.{Word, Figures, figures, verdictRefusal, AlwaysPasses, SaysFits, SaysBy, Says, VerdictSays}
+use Rattle.verdict.specs.Lengths.{AlwaysPasses}
+use Rattle.verdict.specs.Promise.{Word, Figures, figures, verdictRefusal, SaysFits, SaysBy, Says, VerdictSays}
 use Rattle.verdict.specs.Promise.Word.{fits, misses, refused}
 use Rattle.verdict.proofs.Lengths.{fits-never-fails}
 use Rattle.verdict.proofs.Readable.{readable-in-range}

@@ -6,11 +6,12 @@ use Prim.Native.Nat.{ℕ}
 use lib.ListN.{getD}
 use Rattle.demand.specs.Rows.{tasksOf, handlersOf}
 use Rattle.verdict.specs.Loads.{load}
-use Rattle.verdict.specs.Promise.{Word, Figures, figures, noOf, numbersOf, missAt, SaysFits, SaysMisses, SaysRefused, SaysBy, Says, VerdictSays}
+use Rattle.verdict.specs.Promise.{Word, Figures, figures, yesOf, noOf, numbersOf, missAt, SaysFits, SaysMisses, SaysRefused, SaysBy, Says, VerdictSays}
 use Rattle.verdict.specs.Promise.Word.{fits, misses, refused}
 use Rattle.verdict.specs.declared.Answer.{Answer}
 use Rattle.verdict.specs.declared.Answer.the-variants as answer
 use Rattle.verdict.proofs.Lengths.{least-unique, fits-never-fails}
+use Rattle.verdict.proofs.YesEnds.{yes-count-once}
 
 -- ---- one set of figures
 
@@ -24,11 +25,15 @@ figures-same f g word numbers = λ i. record {
   task = getD (numbers i) 3 0;
   load = getD (numbers i) 4 0;
   left = getD (numbers i) 5 0;
+  tested = getD (numbers i) 6 0;
 }
 
 module _ (t h : List ℕ) (f g : Figures) where
   fits-same : SaysFits t h f → SaysFits t h g → f ≡ g
-  fits-same a b = a .figures ∙ sym (b .figures)
+  fits-same a b =
+      let ts = tasksOf t in
+      let hs = handlersOf h in
+      a .figures ∙ ap (yesOf (load ts hs)) (yes-count-once ts hs (f .tested) (g .tested) (a .count) (b .count)) ∙ sym (b .figures)
 
   misses-same : SaysMisses t h f → SaysMisses t h g → f ≡ g
   misses-same a b =
@@ -71,14 +76,14 @@ says-unique t h f g = go (f .word) (g .word) refl refl
 -- Answers with the same figures are the same.
 pub figures-once : (r s : Answer) → figures r ≡ figures s → r ≡ s
 unfolding figures
-figures-once (answer.Fits l) (answer.Fits m) e = ap answer.Fits (ap (λ (f : Figures). f .load) e)
-figures-once (answer.Fits l) (answer.Misses a m) e = cc (ap (λ (f : Figures). f .word) e)
-figures-once (answer.Fits l) (answer.Refused k) e = cc (ap (λ (f : Figures). f .word) e)
-figures-once (answer.Misses a l) (answer.Fits m) e = cc (ap (λ (f : Figures). f .word) e)
+figures-once (answer.Fits l n) (answer.Fits m o) e = λ i. answer.Fits (e i .load) (e i .tested)
+figures-once (answer.Fits l n) (answer.Misses a m) e = cc (ap (λ (f : Figures). f .word) e)
+figures-once (answer.Fits l n) (answer.Refused k) e = cc (ap (λ (f : Figures). f .word) e)
+figures-once (answer.Misses a l) (answer.Fits m o) e = cc (ap (λ (f : Figures). f .word) e)
 figures-once (answer.Misses a l) (answer.Misses b m) e =
-    λ i. answer.Misses (record { interval = e i .interval; handler = e i .handler; task = e i .task; left = e i .left }) (e i .load)
+    λ i. answer.Misses (record { interval = e i .interval; handler = e i .handler; task = e i .task; left = e i .left; tested = e i .tested }) (e i .load)
 figures-once (answer.Misses a l) (answer.Refused k) e = cc (ap (λ (f : Figures). f .word) e)
-figures-once (answer.Refused k) (answer.Fits m) e = cc (ap (λ (f : Figures). f .word) e)
+figures-once (answer.Refused k) (answer.Fits m o) e = cc (ap (λ (f : Figures). f .word) e)
 figures-once (answer.Refused k) (answer.Misses b m) e = cc (ap (λ (f : Figures). f .word) e)
 figures-once (answer.Refused k) (answer.Refused m) e = ap answer.Refused (ap (λ (f : Figures). f .code) e)
 

@@ -1,29 +1,34 @@
 -- Answers that meet the promise, from what the code has in hand.
-use mathlib.Core.Bool.{Bool}
+use mathlib.Core.Bool.{Bool, true}
 use mathlib.Core.List.{List}
 use mathlib.Core.Path.{_≡_, ap, sym, subst, _∙_}
 use native.Mathlib.Nat.{mul-le-mul}
 use native.Mathlib.Omega.{arith}
 use lib.Dec.{ltb}
-use Prim.Native.Nat.{ℕ, _+_, _*_, _≤_, _<_}
+use Prim.Native.Nat.{ℕ, _+_, _*_, _≤_, _<_, min}
 use Rattle.demand.specs.Limits.{ticksMost}
-use Rattle.demand.specs.Refusals.{tableRefusal}
+use Rattle.demand.specs.Refusals.{InRange, tableRefusal}
 use Rattle.demand.specs.Rows.{Row, tasksOf, handlersOf}
 use Rattle.demand.proofs.Inside.Sizes.{tasks-valid, handlers-positive}
 use Rattle.demand.proofs.Sums.{valid-positive}
-use Rattle.verdict.specs.Inside.Search.{FoundAt, FoundSays, endBy, searchEnd}
+use Rattle.demand.specs.Tests.{pick}
+use Rattle.verdict.specs.Idle.{Idle, IdleBy}
+use Rattle.verdict.specs.Inside.Search.{FoundAt, Through, FoundSays, endBy, searchEnd}
 use Rattle.verdict.specs.Facts.{bound}
 use Rattle.verdict.specs.Loads.{work, whole, costs, slack, millionths, load, workMost}
 use Rattle.demand.specs.Multiples.{capped}
 use Rattle.verdict.specs.Multiples.{common}
 use Rattle.verdict.specs.Promise.{figures, yesOf, noOf, refusalOf, verdictRefusal, SaysBy, Says, VerdictSays}
+use Rattle.verdict.specs.Lengths.{AlwaysPasses}
+use Rattle.verdict.specs.Tested.{tested}
 use Rattle.verdict.specs.declared.Answer.the-variants as answer
 use Rattle.verdict.specs.declared.Miss.{Miss}
 use Rattle.verdict.specs.declared.search.Found.{Found}
 use Rattle.verdict.specs.declared.search.Found.the-variants as found
 use Rattle.verdict.proofs.Divisors.{common-positive}
 use Rattle.verdict.proofs.Facts.Ends.{end-le}
-use Rattle.verdict.proofs.Idle.{looked-enough}
+use Rattle.verdict.proofs.Idle.{idle-where, looked-enough}
+use Rattle.verdict.proofs.YesEnds.{fits-light, yes-end-read}
 use Rattle.demand.proofs.Periods.{capped-zero, capped-some}
 use Rattle.verdict.proofs.Loads.{work-most, costs-most, slack-most}
 use Rattle.verdict.proofs.Readable.{readable-in-range, readable-common, readable-zero, common-small, refused-4, refused-table}
@@ -91,15 +96,37 @@ module _ (t h : List ℕ) where
   module _ (readable : verdictRefusal t h ≡ 0) (l n : ℕ) (el : l ≡ load (tasksOf t) (handlersOf h)) (en : n ≡ searchEnd (tasksOf t) (handlersOf h))
       (looks : Bool) where
     -- The idle point is looked for where W is below H: there is one.
-    pub says-fits : (ltb (whole (tasksOf t) (handlersOf h)) (common (tasksOf t) (handlersOf h)) ≡ looks) → (r : Found)
-        → FoundSays (tasksOf t) (handlersOf h) n looks r → r ≡ found.Nothing → VerdictSays t h (answer.Fits l)
+    pub says-fits : ltb (whole (tasksOf t) (handlersOf h)) (common (tasksOf t) (handlersOf h)) ≡ looks → (r : Found) (k : ℕ)
+        → FoundSays (tasksOf t) (handlersOf h) n looks r → r ≡ found.Nothing k → VerdictSays t h (answer.Fits l k)
     unfolding VerdictSays Says SaysBy figures FoundSays
-    says-fits light r says e = record {
+    says-fits light r k says e = record {
       readable = readable;
-      passes = looked-enough (tasksOf t) (handlersOf h) (readable-in-range t h readable) looks light
-          (rw en at (subst (FoundSays (tasksOf t) (handlersOf h) n looks) e says));
-      figures = ap yesOf el;
+      passes = passes;
+      count = record {
+        point = by .point;
+        idle = by .idle;
+        count = through (by .point) (λ _. by .idle) .count ∙ ap (tested ts) (yes-end-read ts hs range (by .point) (by .idle) looks light);
+      };
+      figures = ap (λ (x : ℕ). yesOf x k) el;
     }
+      where
+        ts : List Row
+        ts = tasksOf t
+
+        hs : List Row
+        hs = handlersOf h
+
+        range : InRange ts hs
+        range = readable-in-range t h readable
+
+        through : (z : ℕ) → (looks ≡ true → Idle ts hs z) → Through ts hs (pick looks (min z (searchEnd ts hs)) (searchEnd ts hs)) k
+        through = rw en at (subst (FoundSays ts hs n looks) e says)
+
+        passes : AlwaysPasses ts hs
+        passes = looked-enough ts hs range looks light (λ z point. through z point .passes)
+
+        by : IdleBy ts hs (common ts hs)
+        by = idle-where ts hs range .light (fits-light ts hs range passes)
 
     pub says-misses : (r : Found) (m : Miss) → FoundSays (tasksOf t) (handlersOf h) n looks r → r ≡ found.At m → VerdictSays t h (answer.Misses m l)
     unfolding VerdictSays Says SaysBy figures FoundSays

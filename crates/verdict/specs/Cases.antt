@@ -13,6 +13,7 @@ use Rattle.demand.specs.Demands.{called, handled, left, margin}
 use Rattle.demand.specs.Rows.{Row, tasksOf, handlersOf}
 use Rattle.verdict.specs.Multiples.{common}
 use Rattle.verdict.specs.Promise.{Figures, figures, yesOf, noOf, refusalOf, Says, VerdictSays}
+use Rattle.verdict.specs.Tested.{tested}
 use Rattle.verdict.specs.declared.Answer.{Answer}
 
 pub data Fact : Type 0 where
@@ -28,11 +29,12 @@ pub record Case : Type 0 where
   pub sheet : Figures
   pub beside : List Fact
 
-abbrev yes : ℕ → Figures
-yes load = yesOf load
+abbrev yes : ℕ → ℕ → Figures
+yes load tested = yesOf load tested
 
-abbrev no : ℕ → ℕ → ℕ → ℕ → ℕ → Figures
-no interval handler task load left = noOf (record { interval = interval; handler = handler; task = task; left = left }) load
+-- in the line's order
+abbrev no : ℕ → ℕ → ℕ → ℕ → ℕ → ℕ → Figures
+no l f d load over count = noOf (record { interval = l; handler = f; task = d; left = over; tested = count }) load
 
 abbrev refusal : ℕ → Figures
 refusal code = refusalOf code
@@ -55,11 +57,11 @@ plain (c ∷ p ∷ t) = c ∷ p ∷ p ∷ plain t
 -- a yes; and refusal 13 with those that come before and after it.
 abbrev short : List Case
 short =
-    case (1 ∷ 4 ∷ 1 ∷ 1 ∷ 4 ∷ 1 ∷ []) [] (no 1 0 2 500000 0)
-    ∷ case (1 ∷ 4 ∷ 1 ∷ 1 ∷ 4 ∷ 2 ∷ []) [] (yes 500000)
-    ∷ case (2 ∷ 5 ∷ 3 ∷ 2 ∷ 7 ∷ 4 ∷ []) (1 ∷ 10 ∷ []) (no 4 1 4 785715 0)
-    ∷ case (2 ∷ 10 ∷ 3 ∷ 3 ∷ 10 ∷ 5 ∷ []) (1 ∷ 20 ∷ []) (no 5 1 5 550000 0)
-    ∷ case (1 ∷ 4 ∷ 2 ∷ 1 ∷ 4 ∷ 3 ∷ []) (1 ∷ 10 ∷ []) (yes 600000)
+    case (1 ∷ 4 ∷ 1 ∷ 1 ∷ 4 ∷ 1 ∷ []) [] (no 1 0 2 500000 0 1)
+    ∷ case (1 ∷ 4 ∷ 1 ∷ 1 ∷ 4 ∷ 2 ∷ []) [] (yes 500000 2)
+    ∷ case (2 ∷ 5 ∷ 3 ∷ 2 ∷ 7 ∷ 4 ∷ []) (1 ∷ 10 ∷ []) (no 4 1 4 785715 0 2)
+    ∷ case (2 ∷ 10 ∷ 3 ∷ 3 ∷ 10 ∷ 5 ∷ []) (1 ∷ 20 ∷ []) (no 5 1 5 550000 0 2)
+    ∷ case (1 ∷ 4 ∷ 2 ∷ 1 ∷ 4 ∷ 3 ∷ []) (1 ∷ 10 ∷ []) (yes 600000 2)
     ∷ case (1 ∷ 4 ∷ 0 ∷ []) [] (refusal 13)
     ∷ case (1 ∷ 4 ∷ 5 ∷ []) [] (refusal 13)
     ∷ case (0 ∷ 4 ∷ 5 ∷ []) [] (refusal 3)
@@ -69,27 +71,30 @@ short =
 
 -- A handler longer than the interval that fails leaves work over (02, M-106).
 abbrev leftOver : Case
-leftOver = told (plain (1 ∷ 2 ∷ [])) (5 ∷ 10 ∷ []) (no 2 2 1 1000000 3) (calls 2 5 ∷ takes 2 2 ∷ leaves 2 3 ∷ [])
+leftOver = told (plain (1 ∷ 2 ∷ [])) (5 ∷ 10 ∷ []) (no 2 2 1 1000000 3 1) (calls 2 5 ∷ takes 2 2 ∷ leaves 2 3 ∷ [])
 
 unfoldable pub cases : List Case
 cases =
-    case (plain (1 ∷ 10 ∷ 1 ∷ 10 ∷ 1 ∷ 10 ∷ 1 ∷ 10 ∷ 1 ∷ 10 ∷ 1 ∷ 10 ∷ 1 ∷ 10 ∷ 1 ∷ 10 ∷ 1 ∷ 10 ∷ 1 ∷ 10 ∷ [])) [] (yes 1000000)
-    ∷ told (plain (2 ∷ 4 ∷ [])) (1 ∷ 2 ∷ []) (yes 1000000) (takes 4 2 ∷ [])
-    ∷ told (plain (1 ∷ 4 ∷ [])) (2 ∷ 3 ∷ []) (yes 916667) (takes 4 3 ∷ calls 4 4 ∷ leaves 4 1 ∷ [])
-    ∷ case (plain (2 ∷ 4 ∷ [])) (2 ∷ 3 ∷ []) (no 4 3 2 1166667 1)
-    ∷ case (plain (1 ∷ 2 ∷ [])) (2 ∷ 10 ∷ []) (no 2 2 1 700000 0)
-    ∷ case (plain (1 ∷ 3 ∷ [])) (2 ∷ 10 ∷ []) (yes 533334)
-    ∷ told (plain (2 ∷ 4 ∷ [])) (1 ∷ 4 ∷ 1 ∷ 4 ∷ []) (yes 1000000) (takes 1 1 ∷ takes 2 2 ∷ [])
-    ∷ case (plain (1 ∷ 1 ∷ [])) (1 ∷ 1000000 ∷ []) (no 1 1 1 1000001 0)
-    ∷ told (plain (2 ∷ 5 ∷ 4 ∷ 8 ∷ [])) (1 ∷ 4 ∷ []) (no 10 3 8 1150000 0) (margins 10 (negsuc 0) ∷ [])
-    ∷ case (plain (3 ∷ 2 ∷ [])) [] (no 2 0 3 1500000 0)
-    ∷ told (plain (1 ∷ 1000 ∷ 1 ∷ 999999 ∷ [])) [] (yes 1002) (meets 999999000 ∷ [])
+    case (plain (1 ∷ 10 ∷ 1 ∷ 10 ∷ 1 ∷ 10 ∷ 1 ∷ 10 ∷ 1 ∷ 10 ∷ 1 ∷ 10 ∷ 1 ∷ 10 ∷ 1 ∷ 10 ∷ 1 ∷ 10 ∷ 1 ∷ 10 ∷ [])) [] (yes 1000000 1)
+    ∷ told (plain (2 ∷ 4 ∷ [])) (1 ∷ 2 ∷ []) (yes 1000000 1) (takes 4 2 ∷ [])
+    ∷ told (plain (1 ∷ 4 ∷ [])) (2 ∷ 3 ∷ []) (yes 916667 0) (takes 4 3 ∷ calls 4 4 ∷ leaves 4 1 ∷ [])
+    ∷ case (plain (2 ∷ 4 ∷ [])) (2 ∷ 3 ∷ []) (no 4 3 2 1166667 1 1)
+    ∷ case (plain (1 ∷ 2 ∷ [])) (2 ∷ 10 ∷ []) (no 2 2 1 700000 0 1)
+    ∷ case (plain (1 ∷ 3 ∷ [])) (2 ∷ 10 ∷ []) (yes 533334 1)
+    ∷ told (plain (2 ∷ 4 ∷ [])) (1 ∷ 4 ∷ 1 ∷ 4 ∷ []) (yes 1000000 1) (takes 1 1 ∷ takes 2 2 ∷ [])
+    ∷ case (plain (1 ∷ 1 ∷ [])) (1 ∷ 1000000 ∷ []) (no 1 1 1 1000001 0 1)
+    ∷ told (plain (2 ∷ 5 ∷ 4 ∷ 8 ∷ [])) (1 ∷ 4 ∷ []) (no 10 3 8 1150000 0 3) (margins 10 (negsuc 0) ∷ [])
+    ∷ case (plain (3 ∷ 2 ∷ [])) [] (no 2 0 3 1500000 0 1)
+    ∷ told (plain (1 ∷ 1000 ∷ 1 ∷ 999999 ∷ [])) [] (yes 1002 0) (meets 999999000 ∷ [])
     ∷ case (plain (1 ∷ 1001 ∷ 1 ∷ 1000000 ∷ [])) [] (refusal 4)
     ∷ leftOver
     ∷ short
 
+-- its count, too long to be found here by counting, is left as the definition has it
 unfoldable pub dyeHouse : Case
-dyeHouse = case (plain (999 ∷ 1000 ∷ 1000 ∷ 999999 ∷ [])) [] (no 999999000 0 999999001 1000001 0)
+dyeHouse =
+    let t = plain (999 ∷ 1000 ∷ 1000 ∷ 999999 ∷ []) in
+    case t [] (no 999999000 0 999999001 1000001 0 (tested (tasksOf t) 999999000))
 
 abbrev pub FactHolds : List Row → List Row → Fact → Type 0
 FactHolds ts hs (calls l n) = called hs l ≡ n

@@ -10,7 +10,7 @@ use Rattle.demand.specs.Demands.{Passes, Fails}
 use Rattle.demand.specs.Rows.{Row}
 use Rattle.verdict.specs.Loads.{whole, costs, slack}
 use Rattle.verdict.specs.Multiples.{common}
-use Rattle.verdict.specs.Promise.{AlwaysPasses}
+use Rattle.verdict.specs.Lengths.{AlwaysPasses}
 
 pub record FailsBy (ts hs : List Row) (end : ℕ) : Type 0 where
   pub interval : ℕ

@@ -1,5 +1,5 @@
--- The idle point (02, M-105): the least length from 1 that has room for all the work that is called for within it, of handlers and of tasks,
--- due or not.
+-- The idle point (02, M-105): the least length from 1 that has room for all the work that is called for within it, of handlers and of
+-- tasks, due or not.
 --   asks ts hs l     == A(l) and the sum of cost times (l / period rounded up) over tasks
 --   Idle ts hs z     z is the idle point
 --   NoIdle ts hs     there is none
@@ -13,7 +13,7 @@ use Rattle.demand.specs.Rows.{Row, total}
 use Rattle.verdict.specs.Facts.{PassesTo}
 use Rattle.verdict.specs.Loads.{whole}
 use Rattle.verdict.specs.Multiples.{common}
-use Rattle.verdict.specs.Promise.{AlwaysPasses}
+use Rattle.verdict.specs.Lengths.{AlwaysPasses}
 
 unfoldable pub asks : List Row → List Row → ℕ → ℕ
 asks ts hs l = called hs l + total (calledBy l) ts

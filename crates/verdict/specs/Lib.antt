@@ -3,14 +3,16 @@
 pub mod Multiples
 -- W, E, what short deadlines add, and the load
 pub mod Loads
--- what the verdict promises: refusals, yes, no, and their figures
-pub mod Promise
--- only test lengths can be the least that fails
+-- lengths that pass, the shortest that fails, test lengths
 pub mod Lengths
 -- the facts that end the search
 pub mod Facts
 -- the idle point, where all work has drained (M-105)
 pub mod Idle
+-- how many lengths were tested (M-109)
+pub mod Tested
+-- what the verdict promises: refusals, yes, no, and their figures
+pub mod Promise
 -- what a load says (M-100)
 pub mod Full
 -- a yes holds under less (00, demand 3)

@@ -11,30 +11,31 @@ ghost use Rattle.demand.specs.Rows.{tasksOf, handlersOf};
 use demand::table::Kind;
 use search::Found;
 
-// The shortest interval that fails, with both demands there and the work that handlers leave over.
+// The shortest interval that fails, with both demands there, the work that handlers leave over and how many lengths were tested.
 pub struct Miss {
     pub interval: u64,
     pub handler: u64,
     pub task: u64,
     pub left: u64,
+    pub tested: u64,
 }
 
-// Fits, misses at the shortest interval that fails, or the number of the refusal.
+// Fits, with how many lengths were tested; misses at the shortest interval that fails; or the number of the refusal.
 pub enum Answer {
-    Fits { load: u64 },
+    Fits { load: u64, tested: u64 },
     Misses { miss: Miss, load: u64 },
     Refused { number: u32 },
 }
 
 // How many numbers tell an answer.
-pub const NUMBERS: usize = 7;
+pub const NUMBERS: usize = 8;
 
 // The numbers of an answer: that of its word (0 fits, 1 misses, 2 refused), then those of the printed line.
 pub fn numbers(answer: Answer) -> [u64; NUMBERS]
     ensures { λ r. ⌜ r ≡ answerNumbers answer ⌝ }
 {
     match answer {
-        Answer::Fits { load } => [0, 0, 0, 0, 0, load, 0],
+        Answer::Fits { load, tested } => [0, 0, 0, 0, 0, load, 0, tested],
         Answer::Misses { miss, load } => [
             1,
             0,
@@ -43,8 +44,9 @@ pub fn numbers(answer: Answer) -> [u64; NUMBERS]
             miss.task,
             load,
             miss.left,
+            miss.tested,
         ],
-        Answer::Refused { number } => [2, number as u64, 0, 0, 0, 0, 0],
+        Answer::Refused { number } => [2, number as u64, 0, 0, 0, 0, 0, 0],
     }
 }
 
@@ -75,6 +77,6 @@ fn judged(tasks: &[u32], handlers: &[u32], h: u64) -> Answer
     let found = search::first_failing(tasks, handlers, end, w < h);
     match found {
         Found::At { miss } => Answer::Misses { miss, load },
-        Found::Nothing => Answer::Fits { load },
+        Found::Nothing { tested } => Answer::Fits { load, tested },
     }
 }

@@ -17,24 +17,21 @@ use demand::table::HANDLERS_MOST;
 use demand::table::Kind;
 use demand::table::TASKS_MOST;
 
-// The shortest interval that fails, or that there is none.
+// The shortest interval that fails, or that there is none, with how many lengths were tested.
 pub enum Found {
     At { miss: Miss },
-    Nothing,
+    Nothing { tested: u64 },
 }
 
 // The smallest end that the facts about H, W and the bound allow.
 pub fn end_of(h: u64, w: u64, bound: u64) -> u64
     ensures { λ r. ⌜ r ≡ endBy h w bound ⌝ }
 {
-    if h < w {
+    if h <= w {
         return h;
     }
     if bound == 0 {
         return 0;
-    }
-    if w == h {
-        return h;
     }
     let last = (bound - 1) / (h - w);
     if last < h { last } else { h }
@@ -67,13 +64,15 @@ fn search(
     let mut d = 0;
     let mut p = arrivals::start();
     let mut asked = drain::take_to(a, b, 0, 1);
+    let mut tested = 0;
     while t[0][0] <= end {
         let n = t[0][0];
         let seen = sight(looks, n);
         asked = drain::climb(a, b, asked, seen);
         if asked < seen {
-            return Found::Nothing;
+            return Found::Nothing { tested };
         }
+        tested += 1;
         p = arrivals::to(h, p, n);
         d = walk::take(t, d);
         if n < p.taken + d {
@@ -82,11 +81,12 @@ fn search(
                 handler: p.taken,
                 task: d,
                 left: p.called - p.taken,
+                tested,
             };
             return Found::At { miss };
         }
     }
-    Found::Nothing
+    Found::Nothing { tested }
 }
 
 // The shortest interval from 1 to end that fails; where looks is true, none beyond the idle point is looked at.

@@ -38,6 +38,10 @@ pub head-fair : (r : List Entry) → Queue r → 1 ≤ length r → FairEntry (h
 head-fair [] k some = absurd (omega arith)
 head-fair (e ∷ q) k some = k .fair .0
 
+-- The first event brings work.
+pub come-some : (q : List Entry) → Queue q → 1 ≤ length q → 1 ≤ toCome q (next (head q))
+come-some q k some = omega (arith, moved-come q (next (head q)) k some (omega arith), head-fair q k some .cost)
+
 module _ (n : ℕ) (q : List Entry) (sum : ℕ) (r : List Entry) (s : ℕ) (so-far : Taking n q sum r s) where
   module _ (some : 1 ≤ length q) (here : next (head r) ≤ n) where
     rest : 1 ≤ length r

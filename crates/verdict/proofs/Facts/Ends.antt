@@ -1,24 +1,25 @@
 -- The facts that end the search (specs/Facts), for a table with each figure in its range.
 use mathlib.Core.Bool.{Bool, true, false}
 use mathlib.Core.List.{List}
-use mathlib.Core.Logic.{_⊎_, inl, inr, _≢_}
+use mathlib.Core.Logic.{_⊎_, inl, inr}
 use mathlib.Core.Path.{_≡_, refl}
 use native.Mathlib.Nat.{mul-le-mul-left, mul-sub, le-div-iff-mul-le}
 use native.Mathlib.Omega.{arith}
-use borrow.Author.Tests.{ltb-true, ltb-false, eqb-true, eqb-false}
-use lib.Dec.{ltb, eqb}
+use borrow.Author.Tests.{ltb-true, ltb-false}
+use lib.Dec.{ltb}
 use Prim.Native.Nat.{ℕ, _+_, _-_, _*_, _/_, _≤_, _<_, min}
 use Rattle.demand.specs.Demands.{Passes, Fails}
 use Rattle.demand.specs.Refusals.{InRange}
 use Rattle.demand.specs.Rows.{Row, Positive}
 use Rattle.demand.specs.Tests.{pick}
 use Rattle.demand.proofs.Demands.{passes-or-fails}
+use Rattle.demand.proofs.Divide.{le-or-lt}
 use Rattle.demand.proofs.Inside.Sizes.{fair-positive}
 use Rattle.verdict.specs.Inside.Search.{endBy, searchEnd}
 use Rattle.verdict.specs.Facts.{FailsBy, PassesTo, OverfullFails, PeriodEnds, ShortOnly, bound}
 use Rattle.verdict.specs.Loads.{whole}
 use Rattle.verdict.specs.Multiples.{common}
-use Rattle.verdict.specs.Promise.{AlwaysPasses}
+use Rattle.verdict.specs.Lengths.{AlwaysPasses}
 use Rattle.verdict.proofs.Facts.Common.{work-some, light-drains, fails-short, heavy-fails}
 use Rattle.verdict.proofs.Divisors.{common-positive, common-tasks, common-handlers}
 use Rattle.verdict.proofs.Facts.Drain.{drain-ends}
@@ -72,24 +73,22 @@ module _ (ts hs : List Row) (fair : InRange ts hs) where
 
 -- ---- where the search may end
 
--- What holds of each of the four ends holds of the one that is taken.
-pub end-cases : (C : ℕ → Type 0) (H W B : ℕ) → (H < W → C H) → (W ≤ H → B ≡ 0 → C 0) → (W ≡ H → C H) → (W < H → C (min H ((B - 1) / (H - W)))) → C (endBy H W B)
+-- What holds of both ends holds of the one that is taken.
+pub end-cases : (C : ℕ → Type 0) (H W B : ℕ) → (H ≤ W → C H) → (W < H → C (min H ((B - 1) / (H - W)))) → C (endBy H W B)
 unfolding endBy
-end-cases C H W B over free full short = go (ltb H W) (eqb B 0) (eqb W H) refl refl refl
+end-cases C H W B full short = go (ltb W H) refl
   where
-    go : (a b c : Bool) → ltb H W ≡ a → eqb B 0 ≡ b → eqb W H ≡ c → C (pick a H (pick b 0 (pick c H (min H ((B - 1) / (H - W))))))
-    go true b c e f g = over (ltb-true H W e)
-    go false true c e f g = free (ltb-false H W e) (eqb-true B 0 f)
-    go false false true e f g = full (eqb-true W H g)
-    go false false false e f g =
-        let light : W ≤ H = ltb-false H W e in
-        let less : W ≢ H = eqb-false W H g in
-        short (omega arith)
+    go : (b : Bool) → ltb W H ≡ b → C (pick b (min H ((B - 1) / (H - W))) H)
+    go true e = short (ltb-true W H e)
+    go false e = full (ltb-false W H e)
 
 -- The end is not above H.
+pub end-most : (H W B : ℕ) → endBy H W B ≤ H
+end-most H W B = end-cases (λ n. n ≤ H) H W B (λ _. omega arith) (λ _. omega arith)
+
 pub end-le : (ts hs : List Row) → searchEnd ts hs ≤ common ts hs
 unfolding searchEnd
-end-le ts hs = end-cases (λ n. n ≤ common ts hs) (common ts hs) (whole ts hs) (bound ts hs) (λ _. omega arith) (λ _ _. omega arith) (λ _. omega arith) (λ _. omega arith)
+end-le ts hs = end-most (common ts hs) (whole ts hs) (bound ts hs)
 
 -- A length up to H that the last fact admits is not above the end.
 end-reaches : (H W B l : ℕ) → W < H → l ≤ H → l * (H - W) < B → l ≤ min H ((B - 1) / (H - W))
@@ -98,11 +97,15 @@ end-reaches H W B l light short admitted =
     omega arith
 
 module _ (ts hs : List Row) (fair : InRange ts hs) where
-  -- W above H: the length that fails is not above H.
-  overfull-enough : common ts hs < whole ts hs → PassesTo ts hs (common ts hs) → AlwaysPasses ts hs
-  overfull-enough heavy passes =
-      let f : FailsBy ts hs (common ts hs) = overfull-fails ts hs fair heavy in
-      absurd (omega (arith, passes (f .interval) (f .positive) (f .within), f .fails))
+  -- W at least H: where W is above H, the length that fails is not above H.
+  full-enough : common ts hs ≤ whole ts hs → PassesTo ts hs (common ts hs) → AlwaysPasses ts hs
+  full-enough full passes = go (le-or-lt (whole ts hs) (common ts hs))
+    where
+      go : (whole ts hs ≤ common ts hs) ⊎ (common ts hs < whole ts hs) → AlwaysPasses ts hs
+      go (inl light) = period-ends ts hs fair light passes
+      go (inr heavy) =
+          let f : FailsBy ts hs (common ts hs) = overfull-fails ts hs fair heavy in
+          absurd (omega (arith, passes (f .interval) (f .positive) (f .within), f .fails))
 
   -- W below H: the lengths from the end to H pass by the last fact.
   short-enough : whole ts hs < common ts hs → PassesTo ts hs (min (common ts hs) ((bound ts hs - 1) / (common ts hs - whole ts hs))) → AlwaysPasses ts hs
@@ -115,8 +118,4 @@ module _ (ts hs : List Row) (fair : InRange ts hs) where
   -- No length above the end need be looked at.
   pub end-enough : PassesTo ts hs (searchEnd ts hs) → AlwaysPasses ts hs
   unfolding searchEnd
-  end-enough = end-cases (λ n. PassesTo ts hs n → AlwaysPasses ts hs) (common ts hs) (whole ts hs) (bound ts hs)
-      overfull-enough
-      (λ light none _. nothing-fails ts hs fair light none)
-      (λ e. period-ends ts hs fair (omega arith))
-      short-enough
+  end-enough = end-cases (λ n. PassesTo ts hs n → AlwaysPasses ts hs) (common ts hs) (whole ts hs) (bound ts hs) full-enough short-enough

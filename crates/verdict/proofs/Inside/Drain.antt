@@ -64,11 +64,12 @@ pub record Climbing (a b : List Entry) (s n : ℕ) (c d : List Entry) (w : ℕ) 
   pub can : CanClimb c d w n
   pub tasks-long : length c ≡ length a
   pub handlers-long : length d ≡ length b
+  pub up : s ≤ w
   pub asked : (f : ℕ → ℕ) → Asked f a b s → Asked f c d w
 
 module _ (a b : List Entry) (s n : ℕ) where
   pub climb-start : CanClimb a b s n → Climbing a b s n a b s
-  climb-start can = record { can = can; tasks-long = refl; handlers-long = refl; asked = λ f asked. asked }
+  climb-start can = record { can = can; tasks-long = refl; handlers-long = refl; up = omega arith; asked = λ f asked. asked }
 
   module _ (c d : List Entry) (w : ℕ) (so-far : Climbing a b s n c d w) where
     -- Up to n, or where no tick from there on is left to look at.
@@ -78,6 +79,7 @@ module _ (a b : List Entry) (s n : ℕ) where
       handlers = so-far .can .handlers;
       tasks-long = so-far .tasks-long;
       handlers-long = so-far .handlers-long;
+      up = so-far .up;
       asked = so-far .asked;
       all = λ f asked below. absurd (omega arith);
     }
@@ -94,6 +96,10 @@ module _ (a b : List Entry) (s n : ℕ) where
           record { tasks = can .tasks; handlers = can .handlers; early = omega (arith, soon); fits = omega (arith, tasks, handlers, can .fits) }
 
       module _ (p q : List Entry) (v : ℕ) (took : TakenBoth w c d w p q v) where
+        -- More is asked for, or all has drained.
+        pub climb-up : w ≤ v
+        climb-up = omega (arith, took .same w (omega arith), took .all)
+
         pub climb-turn : Climbing a b s n p q v
         climb-turn = record {
           can = record {
@@ -104,12 +110,9 @@ module _ (a b : List Entry) (s n : ℕ) where
           };
           tasks-long = took .tasks-long ∙ so-far .tasks-long;
           handlers-long = took .handlers-long ∙ so-far .handlers-long;
+          up = omega (arith, so-far .up, climb-up);
           asked = λ f asked. asked-turn f c d w p q v soon took (so-far .asked f asked);
         }
-
-        -- More is asked for, or all has drained.
-        pub climb-up : w ≤ v
-        climb-up = omega (arith, took .same w (omega arith), took .all)
 
         pub climb-drained : v ≡ w → Climbed a b s n p q w
         climb-drained same =
@@ -119,6 +122,7 @@ module _ (a b : List Entry) (s n : ℕ) where
               handlers = took .handlers;
               tasks-long = on .tasks-long;
               handlers-long = on .handlers-long;
+              up = so-far .up;
               asked = λ f asked. rw same at (on .asked f asked);
               all = λ f asked less. let before = so-far .asked f asked in
                   omega (arith, same, before .work w (before .met), took .same w (omega arith), took .all);
@@ -165,6 +169,14 @@ module _ (ts hs : List Row) (range : InRange ts hs) where
       where
         work : (x : ℕ) → 1 ≤ x → asks ts hs x ≡ s + bothCome c d x
         work x from = omega (arith, begun-work x, took .same x from)
+
+  -- The idle point is not below what is asked for so far.
+  pub look-above : (a b : List Entry) (s z : ℕ) → Looking ts hs a b s → Idle ts hs z → s ≤ z
+  look-above a b s z so-far idle = go (le-or-lt s z)
+    where
+      go : (s ≤ z) ⊎ (z < s) → s ≤ z
+      go (inl h) = h
+      go (inr h) = absurd (omega (arith, so-far .asked .busy z (idle .positive) h, idle .room))
 
   module _ (a b : List Entry) (s : ℕ) (so-far : Looking ts hs a b s) (n : ℕ) where
     pub look-can : n ≤ ticksMost → CanClimb a b s n

@@ -55,8 +55,8 @@ first-failing-requires c κs =
 enum-known-found : tie.Need-enum-known-found
 enum-known-found c = search needs
 
-enum-told : tie.Need-enum-told
-enum-told c = search needs
+enum-known-found-2 : tie.Need-enum-known-found-2
+enum-known-found-2 c = search needs
 
 returns : tie.Need-returns
 returns c =
@@ -69,12 +69,12 @@ returns c =
 
 returns-2 : tie.Need-returns-2
 returns-2 c =
-    let x = c .before .before .before .before .before .before .before .before .before .before .before in
-    let tasks = c .before .before .before .before .before .before .before .before .work .ensures in
-    let handlers = c .before .before .before .before .before .before .before .work2 .ensures in
-    let load = load-read _ _ _ _ _ (x .pre .1) tasks handlers _ (c .before .before .before .before .before .before .of-work .ensures) in
-    let end = end-read _ _ _ _ _ (x .pre .1) tasks handlers _ _ _ (c .before .before .before .before .before .costs .ensures) (c .before .before .before .before .slack .ensures) (c .before .before .before .end-of .ensures) in
-    says-fits _ _ (x .pre .0) _ _ load end _ (looks-read _ _ _ _ _ (x .pre .1) tasks handlers) _ (c .before .before .first-failing .ensures) (c .enum-told .given .1)
+    let x = c .before .before .before .before .before .before .before .before .before .before .before .before in
+    let tasks = c .before .before .before .before .before .before .before .before .before .work .ensures in
+    let handlers = c .before .before .before .before .before .before .before .before .work2 .ensures in
+    let load = load-read _ _ _ _ _ (x .pre .1) tasks handlers _ (c .before .before .before .before .before .before .before .of-work .ensures) in
+    let end = end-read _ _ _ _ _ (x .pre .1) tasks handlers _ _ _ (c .before .before .before .before .before .before .costs .ensures) (c .before .before .before .before .before .slack .ensures) (c .before .before .before .before .end-of .ensures) in
+    says-fits _ _ (x .pre .0) _ _ load end _ (looks-read _ _ _ _ _ (x .pre .1) tasks handlers) _ _ (c .before .before .before .first-failing .ensures) (c .before .found2 .given .1)
 
 pub judged-spec : {M : Type 1} → statement M
 judged-spec =
@@ -91,6 +91,6 @@ judged-spec =
     end-of-requires
     first-failing-requires
     enum-known-found
-    enum-told
+    enum-known-found-2
     returns
     returns-2)

@@ -13,8 +13,8 @@ enum-known-answer-2 c = search needs
 enum-known-answer-3 : tie.Need-enum-known-answer-3
 enum-known-answer-3 c = search needs
 
-cast-t7 : tie.Need-cast-t7
-cast-t7 c = search needs
+cast-t8 : tie.Need-cast-t8
+cast-t8 c = search needs
 
 returns : tie.Need-returns
 unfolding figures
@@ -35,7 +35,7 @@ numbers-spec =
     enum-known-answer
     enum-known-answer-2
     enum-known-answer-3
-    cast-t7
+    cast-t8
     returns
     returns-2
     returns-3)

@@ -1,8 +1,8 @@
 -- The idle point looked for along the arrivals of tasks and of handlers (02, M-105). No promise cites it: specs/Idle states the idle point.
 --   bothCome a b x      == the work of the arrivals of a and b up to tick x
 --   CanTakeBoth n a b sum, TakenBoth n a b sum c d s   as CanTakeTo and Taken of walk, of two queues
---   Asked f a b s       f x is the work asked for by tick x: s of it by a tick not above s, beyond as a and b have it to come; no tick below s
---                       has drained
+--   Asked f a b s       f x is the work asked for by tick x: s of it by a tick not above s, beyond as a and b have it to come; no tick
+--                       below s has drained
 --   CanClimb a b s n, Climbed a b s n c d w   from s, asked for so far, one may climb to n and has come to w: the idle point, if below n
 --   Looking ts hs a b s a search has come so far with the arrivals a and b to come and s asked for
 use mathlib.Core.List.{List}
@@ -50,6 +50,7 @@ pub record Climbed (a b : List Entry) (s n : ℕ) (c d : List Entry) (w : ℕ) :
   pub handlers : Queue d
   pub tasks-long : length c ≡ length a
   pub handlers-long : length d ≡ length b
+  pub up : s ≤ w
   pub asked : (f : ℕ → ℕ) → Asked f a b s → Asked f c d w
   pub all : (f : ℕ → ℕ) → Asked f a b s → w < n → f w ≤ w
 

@@ -5,10 +5,10 @@ use Rattle.verdict_cases.proofs.judge.Statement.{statement}
 use Rattle.verdict_cases.proofs.judge.Tie as tie
 
 abbrev Inv-loop : tie.InvT-loop
-Inv-loop what tasks handlers numbers i₀ t6 t7 i = (1 ≤ i) × (i ≤ 7)
+Inv-loop what tasks handlers numbers i₀ t6 t7 i = (1 ≤ i) × (i ≤ 8)
 
 abbrev μ-loop : tie.MeasureT-loop
-μ-loop what tasks handlers numbers i₀ t6 t7 i = 7 - i
+μ-loop what tasks handlers numbers i₀ t6 t7 i = 8 - i
 
 write-all-requires : tie.Need-write-all-requires Inv-loop μ-loop
 write-all-requires c κs = search needs

@@ -46,7 +46,7 @@ returns c =
     let head = c .before .before .before .before .before .before .before .of .ensures in
     let named = c .before .before .before .before .before .before .with-word in
     let numbers = c .before .before .before .before .before .numbers .ensures in
-    let listed = c .before .before .fields .ensures ∙ ap (λ (ns : List ℕ). putsOf (named .result) (fieldsOf (take 6 (drop 1 ns)))) numbers in
+    let listed = c .before .before .fields .ensures ∙ ap (λ (ns : List ℕ). putsOf (named .result) (fieldsOf (take 7 (drop 1 ns)))) numbers in
     lines-printed (figures (start .answer)) _ (chained _ _ head (named .ensures) listed (c .puts .ensures))
 
 pub of-answer-spec : {M : Type 1} → statement M
