@@ -16,7 +16,7 @@ use Rattle.scheduler.specs.Tick.{GoesTo, paid, keyWith, goesTo, tickedBy
 use Rattle.scheduler.specs.declared.Ran.{Ran}
 use Rattle.scheduler.specs.declared.Ran.the-variants.{Handler, Task, Idle}
 use Rattle.scheduler.specs.declared.Run.{Run}
-use Rattle.scheduler.proofs.Steps.Answers.{Passed, Outcome, outcome}
+use Rattle.scheduler.proofs.Steps.Answers.{Passed, passed, Outcome, outcome}
 use Rattle.scheduler.proofs.Reached.FreshBounds.{zeros-at, ready-run}
 use Rattle.scheduler.proofs.Steps.Goes.{goes-to}
 use Rattle.scheduler.proofs.Steps.Answers.Outcome.{stays, goes}
@@ -66,7 +66,7 @@ step-balance key r ws s = go (outcome key r ws)
   where
     go : Outcome key r ws → bringing (stepBy key r ws .answer) ws + owedIn r ≡ busy (stepBy key r ws .answer) + owedIn (stepBy key r ws .run)
     go (stays k e) = rw e
-    go (goes p e) = rw e (ticked-sum r ws (s .shaped) p key)
+    go (goes none e) = rw e (ticked-sum r ws (s .shaped) (passed r ws none) key)
 
 pub offered-balance : (key : Live → ℕ) (offers : List (List ℕ)) (r : Run) → WellMade r
     → broughtBy key offers r + owedIn r ≡ busyBy key offers r + owedIn (offeredBy key offers r)

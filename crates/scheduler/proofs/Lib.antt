@@ -1,4 +1,5 @@
 pub mod Steps
 pub mod Reached
 pub mod Books
+pub mod Promise
 pub mod Rule

@@ -9,7 +9,7 @@ use Rattle.scheduler.specs.Steps.{stepBy}
 use Rattle.scheduler.specs.Tick.{keyWith, goesTo, tickedBy}
 use Rattle.scheduler.specs.declared.Run.{Run}
 use Rattle.scheduler.specs.declared.Stepped.{Stepped}
-use Rattle.scheduler.proofs.Steps.Answers.{Passed, Outcome, outcome}
+use Rattle.scheduler.proofs.Steps.Answers.{Passed, passed, Outcome, outcome}
 use Rattle.scheduler.proofs.Steps.Answers.Outcome.{stays, goes}
 use Rattle.scheduler.proofs.Reached.FreshBounds.{fresh-bounds, fresh-shape, ready, ready-run}
 use Rattle.scheduler.proofs.Steps.Goes.{goes-to}
@@ -41,7 +41,7 @@ step-in-bounds key r ws s = go (outcome key r ws)
   where
     go : Outcome key r ws → WellMade (stepBy key r ws .run)
     go (stays k e) = subst (λ (x : Stepped). WellMade (x .run)) (sym e) s
-    go (goes p e) = subst (λ (x : Stepped). WellMade (x .run)) (sym e) (ticked-well-made key r ws s p)
+    go (goes none e) = subst (λ (x : Stepped). WellMade (x .run)) (sym e) (ticked-well-made key r ws s (passed r ws none))
 
 -- So for any list of offers.
 pub offered-in-bounds : (key : Live → ℕ) (offers : List (List ℕ)) (r : Run) → WellMade r → WellMade (offeredBy key offers r)

@@ -11,7 +11,9 @@ pub mod Books
 pub mod Bounds
 -- refusals 6 to 11 and what a step answers
 pub mod Steps
--- the tick rule said of a step's answer, and the figures of an answer
+-- what `fresh` and `step` promise, and the figures of an answer
+pub mod Promise
+-- the tick rule said of a step's answer
 pub mod Rule
 -- every run reached from a fresh one is in bounds
 pub mod Reached

@@ -4,7 +4,6 @@
 --   freshRun t h    == the fresh run of a table: clock 0, all arrivals, deadlines and work 0, not over
 --   noRun           == a run of zeros, beside a refusal
 --   freshOf t h     == the answer
---   startFigures    == the paper's number for each case of an answer
 use mathlib.Core.Bool.{false}
 use mathlib.Core.List.{List, _++_}
 use Prim.Native.Nat.{ℕ, _-_}
@@ -18,7 +17,6 @@ use Rattle.scheduler.specs.Runs.{runOf, taskNumbers, handlerNumbers, row
 use Rattle.scheduler.specs.declared.Fresh.{Fresh}
 use Rattle.scheduler.specs.declared.Late.the-variants.{Nobody}
 use Rattle.scheduler.specs.declared.Run.{Run}
-use Rattle.scheduler.specs.declared.Start.{Start}
 use Rattle.scheduler.specs.declared.Start.the-variants.{Ready, Refused}
 
 unfoldable pub padded : ℕ → List ℕ → List ℕ
@@ -40,7 +38,3 @@ freshOf t h =
     pick (eqb (tableRefusal t h) 0)
     (record { run = freshRun t h; answer = Ready })
     (record { run = noRun; answer = Refused (tableRefusal t h) })
-
-unfoldable pub startFigures : Start → ℕ
-startFigures Ready = 0
-startFigures (Refused k) = k

@@ -4,8 +4,6 @@
 --   refused r k          == the answer of refusal k: its number, and the run that was given
 --   stepBy key r ws      == the answer, where of the tasks owed work the one with the smallest key runs
 --   stepOf r ws          == the answer, where the earliest deadline runs
---   figures answer       == the paper's number and values for each case of an answer; what does not apply is 0
---   noFigures k          == those of refusal k
 use mathlib.Core.Bool.{Bool, not, _&&_}
 use mathlib.Core.List.{List, [], _∷_}
 use Prim.Native.Nat.{ℕ}
@@ -19,12 +17,7 @@ use Rattle.machine.specs.Live.{Live, dueOf}
 use Rattle.scheduler.specs.Runs.{rowIn, rowCount}
 use Rattle.scheduler.specs.Scans.{any}
 use Rattle.scheduler.specs.Tick.{tickedBy}
-use Rattle.scheduler.specs.declared.Answer.{Answer}
-use Rattle.scheduler.specs.declared.Answer.the-variants.{Ticked, Refused}
-use Rattle.scheduler.specs.declared.Late.{Late}
-use Rattle.scheduler.specs.declared.Late.the-variants as late
-use Rattle.scheduler.specs.declared.Ran.{Ran}
-use Rattle.scheduler.specs.declared.Ran.the-variants as ran
+use Rattle.scheduler.specs.declared.Answer.the-variants.{Refused}
 use Rattle.scheduler.specs.declared.Run.{Run}
 use Rattle.scheduler.specs.declared.Stepped.{Stepped}
 
@@ -58,42 +51,3 @@ stepBy key r ws = pick (eqb (stepRefusal r ws) 0) (tickedBy key r ws) (refused r
 
 abbrev pub stepOf : Run → List ℕ → Stepped
 stepOf r ws = stepBy dueOf r ws
-
--- ---- the figures
-
-pub data Who : Type 0 where
-  nobody : Who
-  handler : Who
-  task : Who
-
-pub record Figures : Type 0 where
-  pub code : ℕ
-  pub ran : Who
-  pub row : ℕ
-  pub late : Who
-  pub lateRow : ℕ
-
-abbrev pub whoRan : Ran → Who
-whoRan (ran.Handler i) = handler
-whoRan (ran.Task i) = task
-whoRan ran.Idle = nobody
-
-abbrev pub rowRan : Ran → ℕ
-rowRan (ran.Handler i) = i
-rowRan (ran.Task i) = i
-rowRan ran.Idle = 0
-
-abbrev pub whoLate : Late → Who
-whoLate late.Nobody = nobody
-whoLate (late.Task i) = task
-
-abbrev pub rowLate : Late → ℕ
-rowLate late.Nobody = 0
-rowLate (late.Task i) = i
-
-abbrev pub noFigures : ℕ → Figures
-noFigures k = record { code = k; ran = nobody; row = 0; late = nobody; lateRow = 0 }
-
-unfoldable pub figures : Answer → Figures
-figures (Ticked ran late) = record { code = 0; ran = whoRan ran; row = rowRan ran; late = whoLate late; lateRow = rowLate late }
-figures (Refused k) = noFigures k

@@ -10,6 +10,8 @@
 --   isTask late               == a row is named
 --   closed, ended             == the run one tick on and the answer, where it is known whether it is over; where it is known who is late
 --   served, given             == the same, where it is known who ran; where it is known what rows have after the arrivals
+--   nextWith, dueWith, owedWith r ws   == what the rows of run r have after the arrivals ws
+--   keyIn, ranBy, lateBy key r ws      == then the key of each task, who runs, and who is late at the end of the tick
 --   tickedBy key r ws         == all of it, with the arrivals ws, where of the tasks owed work the one with the smallest key runs
 use mathlib.Core.Bool.{Bool, true, false, not, _&&_, _||_}
 use mathlib.Core.List.{List}
@@ -140,9 +142,27 @@ keyWith key r next due owed k = key (record { row = rowIn r k; next = getD next 
 abbrev pub given : (Live → ℕ) → Run → List ℕ → List ℕ → List ℕ → Stepped
 given key r next due owed = served r next due owed (goesTo (keyWith key r next due owed) owed (r .«task_count») (r .«handler_count»))
 
+-- What the rows of run r have after the arrivals ws.
+abbrev pub nextWith : Run → List ℕ → List ℕ
+nextWith r ws = nextArrived (r .clock) (rowIn r) ws (rowCount r) (r .next)
+
+abbrev pub dueWith : Run → List ℕ → List ℕ
+dueWith r ws = dueArrived (r .clock) (rowIn r) ws (r .«task_count») (r .due)
+
+abbrev pub owedWith : Run → List ℕ → List ℕ
+owedWith r ws = owedArrived ws (rowCount r) (r .owed)
+
+-- The key of the task at each place, and the one to whom the tick goes.
+abbrev pub keyIn : (Live → ℕ) → Run → List ℕ → ℕ → ℕ
+keyIn key r ws = keyWith key r (nextWith r ws) (dueWith r ws) (owedWith r ws)
+
+abbrev pub ranBy : (Live → ℕ) → Run → List ℕ → Ran
+ranBy key r ws = goesTo (keyIn key r ws) (owedWith r ws) (r .«task_count») (r .«handler_count»)
+
+-- The late row at the tick's end.
+abbrev pub lateBy : (Live → ℕ) → Run → List ℕ → Late
+lateBy key r ws =
+    lateRow (r .clock + 1) (at (dueWith r ws)) (paid (owedWith r ws) (r .«task_count») (ranBy key r ws)) (r .«task_count»)
+
 unfoldable pub tickedBy : (Live → ℕ) → Run → List ℕ → Stepped
-tickedBy key r ws =
-    given key r
-    (nextArrived (r .clock) (rowIn r) ws (rowCount r) (r .next))
-    (dueArrived (r .clock) (rowIn r) ws (r .«task_count») (r .due))
-    (owedArrived ws (rowCount r) (r .owed))
+tickedBy key r ws = given key r (nextWith r ws) (dueWith r ws) (owedWith r ws)

@@ -8,9 +8,8 @@ mod rows;
 pub mod sizes;
 mod tick;
 
-ghost use mathlib.Core.Path.{_≡_};
-ghost use Rattle.scheduler.specs.Start.{freshOf};
-ghost use Rattle.scheduler.specs.Steps.{stepOf};
+ghost use Rattle.machine.specs.Live.{dueOf};
+ghost use Rattle.scheduler.specs.Promise.{FreshSays, StepSays};
 use crate::sizes::HANDLER_NUMBERS;
 use crate::sizes::PLACES;
 use crate::sizes::TASK_NUMBERS;
@@ -78,7 +77,7 @@ impl Run {
 
     // A fresh run of a table: clock 0, all arrivals, deadlines and work 0, not over.
     pub fn fresh(tasks: &[u32], handlers: &[u32]) -> Fresh
-        ensures { λ r. ⌜ r ≡ freshOf (now (tasks .entry)) (now (handlers .entry)) ⌝ }
+        ensures { λ r. ⌜ FreshSays (now (tasks .entry)) (now (handlers .entry)) r ⌝ }
     {
         let number = demand::refusal::of_table(tasks, handlers);
         if number == 0 {
@@ -96,7 +95,7 @@ impl Run {
 
     // One tick, with one number per row, tasks then handlers: 0 for no arrival, else the work that it brings.
     pub fn step(self, arrivals: &[u32]) -> Stepped
-        ensures { λ r. ⌜ r ≡ stepOf self (now (arrivals .entry)) ⌝ }
+        ensures { λ r. ⌜ StepSays dueOf self (now (arrivals .entry)) r ⌝ }
     {
         let late = self.late;
         let number = refusal::of_step(

@@ -1,6 +1,6 @@
 -- The refusals of a step one after the other, and what a step that is not refused has passed.
 --   Passed r ws        no refusal of 6 to 11 applies
---   Outcome key r ws   the step is refused, or passes every test and is the tick
+--   Outcome key r ws   the step is refused, or nothing is refused and it is the tick
 use mathlib.Core.Bool.{Bool, true, false, not}
 use mathlib.Core.List.{List}
 use mathlib.Core.Logic.{_⊎_, inl, inr}
@@ -105,14 +105,14 @@ pub step-refused : (key : Live → ℕ) (r : Run) (ws : List ℕ) (k : ℕ) → 
 unfolding stepBy
 step-refused key r ws k e n = rw (← e, ne-eqb k 0 n)
 
--- A step is refused, or passes every test and is the tick.
+-- A step is refused, or nothing is refused and it is the tick.
 pub data Outcome (key : Live → ℕ) (r : Run) (ws : List ℕ) : Type 0 where
   stays : (k : ℕ) → stepBy key r ws ≡ refused r k → Outcome key r ws
-  goes : Passed r ws → stepBy key r ws ≡ tickedBy key r ws → Outcome key r ws
+  goes : stepRefusal r ws ≡ 0 → stepBy key r ws ≡ tickedBy key r ws → Outcome key r ws
 
 pub outcome : (key : Live → ℕ) (r : Run) (ws : List ℕ) → Outcome key r ws
 outcome key r ws = go (eq-zero-or-pos (stepRefusal r ws))
   where
     go : (stepRefusal r ws ≡ 0) ⊎ (0 < stepRefusal r ws) → Outcome key r ws
-    go (inl none) = goes (passed r ws none) (step-ticks key r ws none)
+    go (inl none) = goes none (step-ticks key r ws none)
     go (inr some) = stays (stepRefusal r ws) (step-refused key r ws (stepRefusal r ws) refl (λ none. omega arith))
