@@ -24,11 +24,11 @@ use Rattle.verdict.specs.Promise.Word.{fits, misses}
 use Rattle.verdict.specs.declared.Answer.{Answer}
 use Rattle.verdict.specs.declared.Answer.the-variants as verdict
 use Rattle.scheduler.specs.Bounds.{outOfBounds}
-use Rattle.guarantees.specs.LegalArrivals.{Accepted, LegalArrivals}
+use Rattle.guarantees.specs.LegalArrivals.{Accepted, LegalOnly}
 use Rattle.guarantees.specs.Synchronous.{beatOf, beatsTo, syncRun}
 use Rattle.guarantees.specs.LateExactly.{LateAt}
 use Rattle.guarantees.specs.OurRun.{Ours}
-use Rattle.machine.specs.Live.{Live}
+use Rattle.machine.specs.Live.{Live, dueOf}
 use Rattle.scheduler.specs.Reached.{offered, offeredBy}
 use Rattle.scheduler.specs.Scans.{at, any, firstOf, filled, used}
 use Rattle.machine.specs.Schedules.{Timely, beats}
@@ -79,7 +79,7 @@ unfolding freshOf freshRun tableRefusal firstRefusal tableTests some tasksOf han
 accepted-6 = refl
 
 -- What is accepted there is what is legal.
-legal-6 : (ws : List ℕ) → LegalArrivals (freshOf tasks-6 handlers-6 .run) ws
+legal-6 : (ws : List ℕ) → LegalOnly (freshOf tasks-6 handlers-6 .run) ws
 unfolding freshOf freshRun tableRefusal firstRefusal tableTests some tasksOf handlersOf
 legal-6 ws = legal-arrivals (freshOf tasks-6 handlers-6 .run) ws (fresh-in-bounds tasks-6 handlers-6 ready-6) refl (omega arith)
 
@@ -93,7 +93,7 @@ again-6 = refl
 
 pub apart-6 : 3 ≤ offered between-6 (stepOf (freshOf tasks-6 handlers-6 .run) (1 ∷ 2 ∷ []) .run) .clock
 unfolding freshOf freshRun tableRefusal firstRefusal tableTests some tasksOf handlersOf padded
-apart-6 = period-apart (freshOf tasks-6 handlers-6 .run) (1 ∷ 2 ∷ []) (1 ∷ 0 ∷ []) between-6 0 (fresh-in-bounds tasks-6 handlers-6 ready-6) (omega arith) accepted-6 (omega arith) again-6 (omega arith)
+apart-6 = period-apart dueOf (freshOf tasks-6 handlers-6 .run) (1 ∷ 2 ∷ []) (1 ∷ 0 ∷ []) between-6 0 (fresh-in-bounds tasks-6 handlers-6 ready-6) (omega arith) accepted-6 (omega arith) again-6 (omega arith)
 
 -- Some schedule meets every deadline for ever, ours: so whatever the promise allows is a yes.
 pub optimal-6 : (r : Answer) → VerdictSays tasks-6 handlers-6 r → figures r .word ≡ fits

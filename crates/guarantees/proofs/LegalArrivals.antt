@@ -9,7 +9,7 @@ use lib.Dec.{ltb, eqb}
 use lib.ListN.{length, getD}
 use Rattle.demand.specs.Limits.{ticksMost}
 use Rattle.guarantees.specs.LegalArrivals.{Accepted, LegalArrival, LegalArrivals}
-use Rattle.machine.specs.Live.{dueOf}
+use Rattle.machine.specs.Live.{Live}
 use Rattle.scheduler.specs.Reached.{WellMade}
 use Rattle.scheduler.specs.Runs.{rowIn, rowCount, Shaped}
 use Rattle.scheduler.specs.Steps.{early, heavy, stepBy}
@@ -64,15 +64,15 @@ module _ (r : Run) (ws : List ℕ) (s : WellMade r) (going : r .over ≡ false) 
       (any-false (heavy (rowIn r) ws) (length ws) (λ k l. le-ltb (rowIn r k .cost) (getD ws k 0) (each k (omega arith) .in-cost))))
 
   -- The next arrivals after an accepted step.
-  step-next : (a : Accepted r ws) → (k : ℕ) → getD (stepBy dueOf r ws .run .next) k 0 ≡ getD (nextNow r ws (s .shaped) (passed r ws a)) k 0
+  step-next : (key : Live → ℕ) (a : Accepted r ws) → (k : ℕ) → getD (stepBy key r ws .run .next) k 0 ≡ getD (nextNow r ws (s .shaped) (passed r ws a)) k 0
   unfolding tickedBy
-  step-next a k = ap (λ (x : Stepped). getD (x .run .next) k 0) (step-ticks dueOf r ws a)
+  step-next key a k = ap (λ (x : Stepped). getD (x .run .next) k 0) (step-ticks key r ws a)
 
-  pub legal-arrivals : LegalArrivals r ws
-  legal-arrivals = record {
-    count = λ a. passed r ws a .count;
-    legal = λ a k l. passed-legal r ws (s .shaped) (passed r ws a) k l;
-    apart = λ a k l work. step-next a k ∙ passed-moves r ws (s .shaped) (passed r ws a) k l work;
-    waits = λ a k l none. step-next a k ∙ passed-waits r ws (s .shaped) (passed r ws a) k l none;
-    accepted = legal-accepted;
-  }
+pub legal-arrivals : LegalArrivals
+legal-arrivals r ws s going soon = record {
+  count = λ a. passed r ws a .count;
+  legal = λ a k l. passed-legal r ws (s .shaped) (passed r ws a) k l;
+  apart = λ key a k l work. step-next r ws s going soon key a k ∙ passed-moves r ws (s .shaped) (passed r ws a) k l work;
+  waits = λ key a k l none. step-next r ws s going soon key a k ∙ passed-waits r ws (s .shaped) (passed r ws a) k l none;
+  accepted = legal-accepted r ws s going soon;
+}

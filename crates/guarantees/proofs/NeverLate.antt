@@ -20,12 +20,13 @@ use Rattle.scheduler.specs.Start.{freshRun}
 use Rattle.scheduler.specs.Steps.{stepBy}
 use Rattle.guarantees.specs.View.{viewOf, offerOf}
 use Rattle.scheduler.specs.declared.Run.{Run}
-use Rattle.scheduler.proofs.Steps.Answers.{passed}
+use Rattle.scheduler.specs.declared.Stepped.{Stepped}
+use Rattle.scheduler.proofs.Steps.Answers.{passed, Outcome, outcome}
+use Rattle.scheduler.proofs.Steps.Answers.Outcome.{stays, goes}
 use Rattle.guarantees.proofs.View.Fresh.{fresh-run, fresh-well-made, fresh-going, fresh-view}
 use Rattle.scheduler.proofs.Reached.{step-in-bounds}
 use Rattle.machine.proofs.Invariant.{Kept, fresh-kept, tick-kept, safe-on-time}
-use Rattle.guarantees.proofs.View.Steps.{Told, told, step-view, on-time-going}
-use Rattle.guarantees.proofs.View.Steps.Told.{accepted, unchanged}
+use Rattle.guarantees.proofs.View.Steps.{step-view, on-time-going}
 use Rattle.guarantees.proofs.View.Arrives.{passed-tick}
 
 module _ (ts hs : List Row) (pt : Valid ts) (ph : Positive hs) (passes : (l : ℕ) → 1 ≤ l → Passes ts hs l) where
@@ -36,11 +37,11 @@ module _ (ts hs : List Row) (pt : Valid ts) (ph : Positive hs) (passes : (l : �
 
   -- A step keeps it: a refused one changes nothing, and an accepted one is a legal tick, on time at its end.
   sure-step : (r : Run) (ws : List ℕ) → Sure r → Sure (stepBy dueOf r ws .run)
-  sure-step r ws sure = go (told dueOf r ws)
+  sure-step r ws sure = go (outcome dueOf r ws)
     where
-      go : Told dueOf r ws → Sure (stepBy dueOf r ws .run)
-      go (unchanged e) = subst Sure (sym e) sure
-      go (accepted a) =
+      go : Outcome dueOf r ws → Sure (stepBy dueOf r ws .run)
+      go (stays k e) = subst (λ (x : Stepped). Sure (x .run)) (sym e) sure
+      go (goes a e) =
           let legal = passed-tick r ws (sure .well-made) (passed r ws a) in
           let kept : (N : ℕ) → Kept N ts hs (viewOf (stepBy dueOf r ws .run)) =
           λ N.

@@ -24,12 +24,13 @@ use Rattle.scheduler.specs.Start.{freshOf}
 use Rattle.scheduler.specs.Steps.{stepOf}
 use Rattle.guarantees.specs.View.{viewOf, offerOf}
 use Rattle.scheduler.specs.declared.Run.{Run}
-use Rattle.scheduler.proofs.Steps.Answers.{passed}
+use Rattle.scheduler.specs.declared.Stepped.{Stepped}
+use Rattle.scheduler.proofs.Steps.Answers.{passed, Outcome, outcome}
+use Rattle.scheduler.proofs.Steps.Answers.Outcome.{stays, goes}
 use Rattle.machine.proofs.Beats.{beats-length}
 use Rattle.guarantees.proofs.View.Fresh.{fresh-run, fresh-well-made, fresh-tasks, fresh-handlers, fresh-view}
 use Rattle.scheduler.proofs.Reached.{step-in-bounds}
-use Rattle.guarantees.proofs.View.Steps.{Told, told, step-tasks, step-handlers, step-view}
-use Rattle.guarantees.proofs.View.Steps.Told.{accepted, unchanged}
+use Rattle.guarantees.proofs.View.Steps.{step-tasks, step-handlers, step-view}
 use Rattle.machine.proofs.Least.{sync-clock, sync-legal}
 use Rattle.guarantees.proofs.View.Parts.{front-of, back-of}
 use Rattle.machine.proofs.Sync.{serve-by-ran}
@@ -123,11 +124,11 @@ module _ (t h : List ℕ) (e : tableRefusal t h ≡ 0) where
 
   -- Once over, always over.
   pub going-before : (n : ℕ) → syncRun t h (suc n) .over ≡ false → syncRun t h n .over ≡ false
-  going-before n going = go (told dueOf (syncRun t h n) (beatOf t h n))
+  going-before n going = go (outcome dueOf (syncRun t h n) (beatOf t h n))
     where
-      go : Told dueOf (syncRun t h n) (beatOf t h n) → syncRun t h n .over ≡ false
-      go (accepted a) = passed (syncRun t h n) (beatOf t h n) a .going
-      go (unchanged same) = ap (λ (r : Run). r .over) (sym (sync-next n ∙ same)) ∙ going
+      go : Outcome dueOf (syncRun t h n) (beatOf t h n) → syncRun t h n .over ≡ false
+      go (stays k same) = ap (λ (r : Run). r .over) (sym (sync-next n ∙ ap (λ (x : Stepped). x .run) same)) ∙ going
+      go (goes a e) = passed (syncRun t h n) (beatOf t h n) a .going
 
   -- So the run is the machine's up to the first clock at which it is over.
   pub synced : (n : ℕ) → n ≤ ticksMost → ((m : ℕ) → m < n → syncRun t h m .over ≡ false) → Synced n

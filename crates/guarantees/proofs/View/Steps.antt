@@ -1,43 +1,28 @@
 -- A step is a tick of the machine: an accepted one makes of a run's state what the machine makes of it, and the run is over exactly where that is not on time.
---   Told key r ws   the step of run r with arrivals ws is accepted, or changes nothing
 use mathlib.Core.Bool.{Bool, true, false}
 use mathlib.Core.List.{List}
-use mathlib.Core.Logic.{_⊎_, inl, inr}
 use mathlib.Core.Path.{_≡_, refl, sym, ap, ap₂, _∙_}
-use native.Mathlib.Nat.{eq-zero-or-pos}
-use native.Mathlib.Omega.{arith}
-use Prim.Native.Nat.{ℕ, _<_}
+use Prim.Native.Nat.{ℕ}
 use Rattle.guarantees.specs.LegalArrivals.{Accepted}
 use Rattle.machine.specs.Live.{Live, owedAll, OnTime}
 use Rattle.machine.specs.Machine.{serveBy, givenBy, tickBy}
 use Rattle.scheduler.specs.Reached.{WellMade}
 use Rattle.scheduler.specs.Runs.{taskRows, handlerRows}
 use Rattle.scheduler.specs.Scans.{at}
-use Rattle.scheduler.specs.Steps.{stepRefusal, stepBy}
+use Rattle.scheduler.specs.Steps.{stepBy}
 use Rattle.scheduler.specs.Tick.{keyWith, goesTo, lateRow, isTask, tickedBy}
 use Rattle.guarantees.specs.View.{viewOf, offerOf}
 use Rattle.scheduler.specs.declared.Ran.{Ran}
 use Rattle.scheduler.specs.declared.Run.{Run}
 use Rattle.scheduler.specs.declared.Stepped.{Stepped}
-use Rattle.scheduler.proofs.Steps.Answers.{Passed, passed, step-ticks, step-refused}
+use Rattle.scheduler.proofs.Steps.Answers.{Passed, passed, step-ticks, Outcome, outcome}
+use Rattle.scheduler.proofs.Steps.Answers.Outcome.{stays, goes}
 use Rattle.scheduler.proofs.Steps.Goes.{goes-to}
 use Rattle.scheduler.proofs.Reached.{step-in-bounds}
 use Rattle.scheduler.proofs.Reached.KeepsBounds.{nextNow, dueNow, due-length, owedNow, owed-length}
 use Rattle.guarantees.proofs.View.Arrives.{next-length, tasks-arrive, handlers-arrive}
 use Rattle.guarantees.proofs.View.Late.{named-not-on-time, nobody-on-time}
 use Rattle.guarantees.proofs.View.Serves.{goes-view}
-
--- A step is accepted, or changes nothing.
-pub data Told (key : Live → ℕ) (r : Run) (ws : List ℕ) : Type 0 where
-  accepted : Accepted r ws → Told key r ws
-  unchanged : stepBy key r ws .run ≡ r → Told key r ws
-
-pub told : (key : Live → ℕ) (r : Run) (ws : List ℕ) → Told key r ws
-told key r ws = go (eq-zero-or-pos (stepRefusal r ws))
-  where
-    go : (stepRefusal r ws ≡ 0) ⊎ (0 < stepRefusal r ws) → Told key r ws
-    go (inl none) = accepted none
-    go (inr some) = unchanged (ap (λ (x : Stepped). x .run) (step-refused key r ws (stepRefusal r ws) refl (λ none. omega arith)))
 
 module _ (key : Live → ℕ) (r : Run) (ws : List ℕ) where
   -- The tick, seen.
@@ -55,19 +40,19 @@ module _ (key : Live → ℕ) (r : Run) (ws : List ℕ) where
   -- The table stays, of a refused step too.
   pub step-tasks : taskRows (stepBy key r ws .run) ≡ taskRows r
   unfolding tickedBy taskRows
-  step-tasks = go (told key r ws)
+  step-tasks = go (outcome key r ws)
     where
-      go : Told key r ws → taskRows (stepBy key r ws .run) ≡ taskRows r
-      go (accepted a) = ap (λ (x : Stepped). taskRows (x .run)) (step-ticks key r ws a)
-      go (unchanged e) = ap taskRows e
+      go : Outcome key r ws → taskRows (stepBy key r ws .run) ≡ taskRows r
+      go (stays k e) = ap (λ (x : Stepped). taskRows (x .run)) e
+      go (goes a e) = ap (λ (x : Stepped). taskRows (x .run)) e
 
   pub step-handlers : handlerRows (stepBy key r ws .run) ≡ handlerRows r
   unfolding tickedBy handlerRows
-  step-handlers = go (told key r ws)
+  step-handlers = go (outcome key r ws)
     where
-      go : Told key r ws → handlerRows (stepBy key r ws .run) ≡ handlerRows r
-      go (accepted a) = ap (λ (x : Stepped). handlerRows (x .run)) (step-ticks key r ws a)
-      go (unchanged e) = ap handlerRows e
+      go : Outcome key r ws → handlerRows (stepBy key r ws .run) ≡ handlerRows r
+      go (stays k e) = ap (λ (x : Stepped). handlerRows (x .run)) e
+      go (goes a e) = ap (λ (x : Stepped). handlerRows (x .run)) e
 
   module _ (s : WellMade r) (a : Accepted r ws) where
     abbrev after : Run
