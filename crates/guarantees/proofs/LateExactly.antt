@@ -13,7 +13,8 @@ use Rattle.demand.specs.Rows.{Row, tasksOf, handlersOf}
 use Rattle.verdict.specs.Lengths.{LeastFailing}
 use Rattle.verdict.specs.Promise.{figures}
 use Rattle.guarantees.specs.LegalArrivals.{Accepted}
-use Rattle.guarantees.specs.Synchronous.{beatOf, beatsTo, syncRun}
+use Rattle.guarantees.specs.Patterns.{patternTo}
+use Rattle.guarantees.specs.Synchronous.{beatOf, syncRun}
 use Rattle.guarantees.specs.LateExactly.{LateAt, LateExactly}
 use Rattle.machine.specs.Live.{dueOf, OnTime}
 use Rattle.machine.specs.Machine.{State, serveBy}
@@ -77,7 +78,7 @@ module _ (t h : List ℕ) (e : tableRefusal t h ≡ 0) where
 
   module _ (l : ℕ) (shortest : LeastFailing ts hs l) (soon : l ≤ ticksMost) where
     going-fresh : syncRun t h 0 .over ≡ false
-    unfolding beatsTo offeredBy
+    unfolding patternTo offeredBy
     going-fresh = ap (λ (r : Run). r .over) (fresh-run t h e) ∙ fresh-going t h e
 
     -- Below the shortest length that fails the machine is on time, and so the run goes on.

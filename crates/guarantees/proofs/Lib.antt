@@ -1,9 +1,11 @@
 pub mod LegalArrivals
 pub mod PeriodApart
 pub mod View
+pub mod Patterns
 pub mod Synchronous
 pub mod Named
 pub mod NeverLate
+pub mod LegalOnTime
 pub mod LateExactly
 pub mod NoScheduler
 pub mod OurRun

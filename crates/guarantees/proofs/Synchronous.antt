@@ -1,8 +1,8 @@
 -- The synchronous run of a table, as `fresh` and `step` make it, is the machine's synchronous run for as long as it is not over.
 --   Synced n   the run after n ticks of synchronous arrivals is well made, has the table's rows, and is seen as the machine's
 use mathlib.Core.Bool.{false}
-use mathlib.Core.List.{List, [], _∷_, _++_}
-use mathlib.Core.Path.{_≡_, refl, sym, ap, ap₂, subst, _∙_}
+use mathlib.Core.List.{List}
+use mathlib.Core.Path.{_≡_, sym, ap, ap₂, subst, _∙_}
 use native.Mathlib.Omega.{arith}
 use Prim.Native.Nat.{ℕ, zero, suc, _+_, _≤_, _<_}
 use lib.ListN.{length, length-append}
@@ -12,15 +12,15 @@ use Rattle.demand.specs.Limits.{ticksMost}
 use Rattle.demand.specs.Refusals.{tableRefusal}
 use Rattle.demand.specs.Rows.{Row, tasksOf, handlersOf}
 use Rattle.guarantees.specs.LegalArrivals.{Accepted}
-use Rattle.guarantees.specs.Synchronous.{beatOf, beatsTo, syncRun}
+use Rattle.guarantees.specs.Patterns.{patternTo}
+use Rattle.guarantees.specs.Synchronous.{beatOf, syncRun}
 use Rattle.machine.specs.Live.{dueOf}
 use Rattle.machine.specs.Machine.{State, Arrivals, serveBy, tick}
-use Rattle.scheduler.specs.Reached.{offeredBy, offered, WellMade}
+use Rattle.scheduler.specs.Reached.{offeredBy, WellMade}
 use Rattle.scheduler.specs.Runs.{rowCount, taskRows, handlerRows}
 use Rattle.machine.specs.Schedules.{beats}
 use Rattle.machine.specs.Machine.{beatsAt, syncBy, sync}
 use Rattle.machine.specs.Inside.Legal.{LegalTick}
-use Rattle.scheduler.specs.Start.{freshOf}
 use Rattle.scheduler.specs.Steps.{stepOf}
 use Rattle.guarantees.specs.View.{viewOf, offerOf}
 use Rattle.scheduler.specs.declared.Run.{Run}
@@ -36,12 +36,7 @@ use Rattle.guarantees.proofs.View.Parts.{front-of, back-of}
 use Rattle.machine.proofs.Sync.{serve-by-ran}
 use Rattle.guarantees.proofs.View.Rows.{task-rows, handler-rows}
 use Rattle.guarantees.proofs.View.Arrives.{tick-accepted}
-
--- The last of several offers is a step of the run after the others.
-offered-last : (offers : List (List ℕ)) (ws : List ℕ) (r : Run) → offered (offers ++ (ws ∷ [])) r ≡ stepOf (offered offers r) ws .run
-unfolding offeredBy
-offered-last [] ws r = refl
-offered-last (x ∷ offers) ws r = offered-last offers ws (stepOf r x .run)
+use Rattle.guarantees.proofs.Patterns.{run-next}
 
 module _ (t h : List ℕ) (e : tableRefusal t h ≡ 0) where
   abbrev ts : List Row
@@ -52,8 +47,7 @@ module _ (t h : List ℕ) (e : tableRefusal t h ≡ 0) where
 
   -- Tick n is a step with the arrivals of tick n.
   pub sync-next : (n : ℕ) → syncRun t h (suc n) ≡ stepOf (syncRun t h n) (beatOf t h n) .run
-  unfolding beatsTo
-  sync-next n = offered-last (beatsTo t h n) (beatOf t h n) (freshOf t h .run)
+  sync-next n = run-next dueOf t h (beatOf t h) n
 
   pub record Synced (n : ℕ) : Type 0 where
     pub well-made : WellMade (syncRun t h n)
@@ -63,7 +57,7 @@ module _ (t h : List ℕ) (e : tableRefusal t h ≡ 0) where
 
   -- At the start.
   pub synced-fresh : Synced 0
-  unfolding beatsTo offeredBy syncBy
+  unfolding patternTo offeredBy syncBy
   synced-fresh =
       let same = fresh-run t h e in
       record {

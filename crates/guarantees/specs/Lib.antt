@@ -4,6 +4,10 @@
 pub mod LegalArrivals
 -- so two accepted arrivals of a row are at least its period apart, whatever is offered between them
 pub mod PeriodApart
+-- patterns of arrivals, and which of them are legal
+pub mod Patterns
+-- after a yes every legal pattern of arrivals is accepted at every tick, and nobody is late
+pub mod LegalOnTime
 -- after a yes no run from fresh is ever over, whatever is offered and however often it is refused
 pub mod NeverLate
 -- the synchronous run of a table: each row at tick 0 and each period after, with its full cost

@@ -4,7 +4,7 @@
 --   noFigures k            == those of refusal k: its number, all others 0
 --   figures answer         == the paper's number and values for each case of a step's answer
 --   startFigures answer    == the paper's number for each case of a fresh run's answer
---   figuresBy key r ws     == the figures of a step of run r with arrivals ws, where of the tasks owed work the one with the smallest key runs
+--   figuresBy key r ws     == the figures of a step of run r with arrivals ws, where the smallest key of the tasks owed work runs
 --   FreshSays t h a        a is the answer to `fresh` of the table t, h
 --   StepSays key r ws a    a is the answer to that step; in 01 the key is the deadline
 --   FreshUnique, StepUnique   two answers that a promise allows are equal
