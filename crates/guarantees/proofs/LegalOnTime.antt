@@ -14,7 +14,6 @@ use Rattle.scheduler.specs.declared.Late.{Late}
 use Rattle.scheduler.specs.declared.Late.the-variants.{Nobody, Task}
 use Rattle.scheduler.specs.declared.Run.{Run}
 use Rattle.scheduler.specs.declared.Start.the-variants.{Ready}
-use Rattle.scheduler.specs.declared.Stepped.{Stepped}
 use Rattle.scheduler.proofs.Reached.FreshBounds.{ready}
 use Rattle.scheduler.proofs.Steps.Answers.{step-ticks}
 use Rattle.scheduler.proofs.Steps.Clauses.{clauses}
@@ -23,7 +22,7 @@ use Rattle.verdict.proofs.Lightening.{says-fits}
 use Rattle.verdict.proofs.Readable.{readable-table}
 use Rattle.verdict.specs.Promise.{figures, SaysFits, VerdictSays}
 use Rattle.guarantees.specs.LegalArrivals.{Accepted}
-use Rattle.guarantees.specs.LegalOnTime.{OnTimeAt, OnTimeBy, LegalOnTime}
+use Rattle.guarantees.specs.LegalOnTime.{OnTimeBy, LegalOnTime}
 use Rattle.guarantees.specs.Patterns.{patternTo, runBy}
 use Rattle.guarantees.proofs.NeverLate.{never-late}
 use Rattle.guarantees.proofs.Patterns.{run-next, Followed, followed-accepted, followed}

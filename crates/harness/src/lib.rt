@@ -1,96 +1,26 @@
 // For tests and benchmarks in other languages: a run laid out in arrays that the caller lends.
 // figures: task count, handler count, clock, over, late row and 1 (0 for none); then of the answer: code, who ran
 // (0 nobody, 1 a handler, 2 a task), its row, late row and 1.
-ghost use Prim.Native.Nat.{_≤_};
+mod numbers;
+
+ghost use mathlib.Core.Path.{_≡_};
+ghost use lib.ListN.{replicate};
+ghost use Rattle.harness.specs.Numbers.{runIn, FreshLaid, StepLaid};
+ghost use Rattle.machine.specs.Live.{dueOf};
+ghost use Rattle.scheduler.specs.Books.{busyBy};
+ghost use Rattle.scheduler.specs.Start.{freshOf};
+ghost use Rattle.scheduler.specs.Steps.{stepOf};
+use crate::numbers::FIGURES;
 use scheduler::Answer;
 use scheduler::Late;
 use scheduler::Ran;
 use scheduler::Run;
-use scheduler::Start;
 use scheduler::sizes::HANDLER_NUMBERS;
 use scheduler::sizes::PLACES;
 use scheduler::sizes::TASK_NUMBERS;
 
-// The tasks that a run has room for, and the figures of a run and an answer.
+// The tasks that a run has room for.
 const TASKS_MOST: usize = Run::TASKS_MOST;
-
-const FIGURES: usize = 9;
-
-// Rows that no run has are told apart up to this one.
-const ROW_MOST: usize = 1_000_000;
-
-fn late_number(late: Late) -> u64 {
-    match late {
-        Late::Nobody => 0,
-        Late::Task { row } => {
-            if row < ROW_MOST {
-                row as u64 + 1
-            } else {
-                ROW_MOST as u64 + 1
-            }
-        }
-    }
-}
-
-fn late_of(number: u64) -> Late {
-    if number == 0 {
-        Late::Nobody
-    } else {
-        Late::Task {
-            row: (number - 1) as usize,
-        }
-    }
-}
-
-fn who(ran: Ran) -> u64 {
-    match ran {
-        Ran::Handler { row: _ } => 1,
-        Ran::Task { row: _ } => 2,
-        Ran::Idle => 0,
-    }
-}
-
-fn row_of(ran: Ran) -> u64 {
-    match ran {
-        Ran::Handler { row } => row as u64,
-        Ran::Task { row } => row as u64,
-        Ran::Idle => 0,
-    }
-}
-
-fn over_number(over: bool) -> u64 {
-    if over { 1 } else { 0 }
-}
-
-fn start_code(start: Start) -> u64 {
-    match start {
-        Start::Ready => 0,
-        Start::Refused { number } => number as u64,
-    }
-}
-
-// The figures of a run, and of the answer beside it.
-fn run_figures(run: Run, code: u64, ran: Ran, late: Late) -> [u64; FIGURES] {
-    let own = run.late;
-    [
-        run.task_count as u64,
-        run.handler_count as u64,
-        run.clock,
-        over_number(run.over),
-        late_number(own),
-        code,
-        who(ran),
-        row_of(ran),
-        late_number(late),
-    ]
-}
-
-fn step_figures(run: Run, answer: Answer) -> [u64; FIGURES] {
-    match answer {
-        Answer::Ticked { ran, late } => run_figures(run, 0, ran, late),
-        Answer::Refused { number } => run_figures(run, number as u64, Ran::Idle, Late::Nobody),
-    }
-}
 
 // A fresh run, laid into the lent arrays.
 #[no_mangle]
@@ -103,7 +33,10 @@ pub extern "C" fn harness_fresh(
     due: &mut [u64; TASKS_MOST],
     owed: &mut [u64; PLACES],
     figures: &mut [u64; FIGURES],
-) {
+)
+    ensures { λ _. ⌜ FreshLaid (now (tasks .entry)) (now (handlers .entry)) (now (t .exit)) (now (h .exit)) (now (next .exit))
+        (now (due .exit)) (now (owed .exit)) (now (figures .exit)) ⌝ }
+{
     let fresh = Run::fresh(tasks, handlers);
     let run = fresh.run;
     let answer = fresh.answer;
@@ -117,10 +50,10 @@ pub extern "C" fn harness_fresh(
     *next = run_next;
     *due = run_due;
     *owed = run_owed;
-    *figures = run_figures(run, start_code(answer), Ran::Idle, Late::Nobody);
+    *figures = numbers::run_figures(run, numbers::start_code(answer), Ran::Idle, Late::Nobody);
 }
 
-// One step of the run in the lent arrays, whatever stands there.
+// One step of the run in the lent arrays, whatever stands there. A refused one leaves all numbers of the run as they were.
 #[no_mangle]
 pub extern "C" fn harness_step(
     t: &[u32; TASK_NUMBERS],
@@ -130,13 +63,18 @@ pub extern "C" fn harness_step(
     owed: &mut [u64; PLACES],
     figures: &mut [u64; FIGURES],
     arrivals: &[u32],
-) {
+)
+    ensures { λ _. ⌜ StepLaid (runIn (now (t .entry)) (now (h .entry)) (now (next .entry)) (now (due .entry)) (now (owed .entry))
+        (now (figures .entry))) (now (figures .entry)) (now (arrivals .entry))
+        (now (next .exit)) (now (due .exit)) (now (owed .exit)) (now (figures .exit)) ⌝ }
+{
     let tasks = *t;
     let handlers = *h;
     let old_next = *next;
     let old_due = *due;
     let old_owed = *owed;
-    let late = late_of(figures[4]);
+    let late = numbers::late_of(figures[4]);
+    let over = numbers::over_of(figures[3]);
     let run = Run {
         tasks,
         handlers,
@@ -146,27 +84,29 @@ pub extern "C" fn harness_step(
         next: old_next,
         due: old_due,
         owed: old_owed,
-        over: figures[3] != 0,
+        over,
         late,
     };
     let stepped = run.step(arrivals);
     let after = stepped.run;
     let answer = stepped.answer;
-    let new_next = after.next;
-    let new_due = after.due;
-    let new_owed = after.owed;
-    *next = new_next;
-    *due = new_due;
-    *owed = new_owed;
-    *figures = step_figures(after, answer);
-}
-
-fn busy(answer: Answer) -> u64
-    ensures { λ r. ⌜ r ≤ 1 ⌝ }
-{
     match answer {
-        Answer::Ticked { ran, late: _ } => { if who(ran) == 0 { 0 } else { 1 } }
-        Answer::Refused { number: _ } => 0,
+        Answer::Ticked {
+            ran,
+            late: now_late,
+        } => {
+            let new_next = after.next;
+            let new_due = after.due;
+            let new_owed = after.owed;
+            *next = new_next;
+            *due = new_due;
+            *owed = new_owed;
+            *figures = numbers::run_figures(after, 0, ran, now_late);
+        }
+        Answer::Refused { number } => {
+            let old = *figures;
+            *figures = numbers::refused_figures(&old, number);
+        }
     }
 }
 
@@ -178,7 +118,10 @@ pub extern "C" fn harness_ticks(
     first: &[u32],
     rest: &[u32],
     ticks: u32,
-) -> u64 {
+) -> u64
+    ensures { λ r. ⌜ r ≡ busyBy dueOf (replicate ticks (now (rest .entry)))
+        (stepOf (freshOf (now (tasks .entry)) (now (handlers .entry)) .run) (now (first .entry)) .run) ⌝ }
+{
     let fresh = Run::fresh(tasks, handlers);
     let start = fresh.run;
     let begun = start.step(first);
@@ -189,7 +132,7 @@ pub extern "C" fn harness_ticks(
         let stepped = run.step(rest);
         let answer = stepped.answer;
         run = stepped.run;
-        count += busy(answer);
+        count += numbers::busy(answer);
         i += 1;
     }
     count

@@ -1,0 +1,71 @@
+use borrow.Author.Needs.{needs}
+use Rattle.harness.proofs.Laid.{laid-ticked, ticked-late, laid-refused}
+use Rattle.harness.proofs.harness_step.Statement.{statement}
+use Rattle.harness.proofs.harness_step.Tie as tie
+
+element-copy-out-late-of : tie.Need-element-copy-out-late-of
+element-copy-out-late-of c = search needs
+
+late-of-requires : tie.Need-late-of-requires
+late-of-requires c κs = search needs
+
+element-copy-out-over-of : tie.Need-element-copy-out-over-of
+element-copy-out-over-of c = search needs
+
+over-of-requires : tie.Need-over-of-requires
+over-of-requires c κs = search needs
+
+element-copy-out-t28 : tie.Need-element-copy-out-t28
+element-copy-out-t28 c = search needs
+
+element-copy-out-t36 : tie.Need-element-copy-out-t36
+element-copy-out-t36 c = search needs
+
+element-copy-out-t40 : tie.Need-element-copy-out-t40
+element-copy-out-t40 c = search needs
+
+step-requires : tie.Need-step-requires
+step-requires c κs = search needs
+
+enum-known-answer : tie.Need-enum-known-answer
+enum-known-answer c = search needs
+
+run-figures-requires : tie.Need-run-figures-requires
+run-figures-requires c κs =
+    let step = c .before .before .before .before .before .before .before .step in
+    ticked-late _ _ (step .result) (step .ensures) _ _ (c .before .before .before .before .answer .given .1)
+
+enum-known-answer-2 : tie.Need-enum-known-answer-2
+enum-known-answer-2 c = search needs
+
+refused-figures-requires : tie.Need-refused-figures-requires
+refused-figures-requires c κs = search needs
+
+returns : tie.Need-returns
+returns c =
+    let step = c .before .before .before .before .before .before .before .before .step in
+    laid-ticked _ _ _ _ _ _ _ _ _ (c .before .before .before .before .before .before .before .before .before .before .before .before .over-of .ensures) (c .before .before .before .before .before .before .before .before .before .before .before .before .before .before .late-of .ensures) (step .result) (step .ensures) _ _ (c .before .before .before .before .before .answer .given .1) _ (c .run-figures .ensures)
+
+returns-2 : tie.Need-returns-2
+returns-2 c =
+    let step = c .before .before .before .before .before .before .before .step in
+    laid-refused _ _ _ _ _ _ _ _ _ (c .before .before .before .before .before .before .before .before .before .before .before .over-of .ensures) (c .before .before .before .before .before .before .before .before .before .before .before .before .before .late-of .ensures) (step .result) (step .ensures) _ (c .before .before .before .before .answer2 .given .1) _ (c .refused-figures .ensures)
+
+pub harness-step-spec : {M : Type 1} → statement M
+harness-step-spec =
+    tie.close
+    (tie.spec
+    element-copy-out-late-of
+    late-of-requires
+    element-copy-out-over-of
+    over-of-requires
+    element-copy-out-t28
+    element-copy-out-t36
+    element-copy-out-t40
+    step-requires
+    enum-known-answer
+    run-figures-requires
+    enum-known-answer-2
+    refused-figures-requires
+    returns
+    returns-2)
