@@ -2,7 +2,7 @@
 use mathlib.Core.List.{List}
 use mathlib.Core.Path.{_≡_, refl}
 use native.Mathlib.Omega.{arith}
-use Prim.Native.Nat.{ℕ, suc}
+use Prim.Native.Nat.{suc}
 use Rattle.demand.proofs.Inside.Sizes.{tasks-valid, handlers-positive}
 use Rattle.demand.specs.Refusals.{tableRefusal}
 use Rattle.demand.specs.Rows.{Row, tasksOf, handlersOf}
@@ -11,8 +11,7 @@ use Rattle.verdict.proofs.Lightening.{says-fits}
 use Rattle.verdict.specs.Lengths.{AlwaysPasses}
 use Rattle.verdict.specs.Promise.{Word, figures, SaysFits, SaysBy, Says, VerdictSays}
 use Rattle.verdict.specs.Promise.Word.{fits, misses, refused}
-use Rattle.verdict.specs.declared.Answer.{Answer}
-use Rattle.guarantees.specs.NoScheduler.{NoScheduler, OursIsOne, Met, Optimal}
+use Rattle.guarantees.specs.NoScheduler.{NoScheduler, OursIsOne, Met, FitsMet, Optimal}
 use Rattle.machine.specs.Live.{dueOf}
 use Rattle.machine.specs.Machine.{serveBy}
 use Rattle.machine.specs.Machine.{sync}
@@ -44,7 +43,7 @@ optimal t h r readable says met = go (figures r .word) refl says
     go refused e s = absurd (omega (arith, s .unreadable))
 
 -- After a yes there is such a schedule: ours, which is on time at every clock. So the verdict is a yes exactly where there is one.
-pub fits-met : (t h : List ℕ) (r : Answer) → VerdictSays t h r → figures r .word ≡ fits → (n : ℕ) → Met t h n
+pub fits-met : FitsMet
 unfolding VerdictSays AlwaysPasses
 fits-met t h r says word n =
     let ts : List Row = tasksOf t in

@@ -2,6 +2,7 @@
 --   NoScheduler            after a no no schedule that puts handlers first meets every deadline up to the end of the named interval
 --   OursIsOne              after a no our scheduler's synchronous run is such a schedule, and meets every deadline before
 --   Met t h n              some such schedule meets every deadline up to clock n
+--   FitsMet                after a yes there is one for every n: ours
 --   Optimal                if some schedule that puts handlers first meets every deadline for ever, the verdict is a yes
 use mathlib.Core.List.{List}
 use mathlib.Core.Path.{_≡_}
@@ -30,6 +31,9 @@ pub record Met (t h : List ℕ) (n : ℕ) : Type 0 where
   pub tasks : List Live
   pub handlers : List Live
   pub timely : Timely (tasksOf t) (handlersOf h) n tasks handlers
+
+abbrev pub FitsMet : Type 0
+FitsMet = (t h : List ℕ) (r : verdict.Answer) → VerdictSays t h r → figures r .word ≡ fits → (n : ℕ) → Met t h n
 
 abbrev pub Optimal : Type 0
 Optimal =

@@ -11,4 +11,5 @@ pub mod Sync
 pub mod Flat
 pub mod FlatArrive
 pub mod FlatFacts
+pub mod Lateness
 pub mod Examples

@@ -5,6 +5,8 @@ pub mod Live
 pub mod Schedules
 -- our own machine: its state, one tick of it, and its synchronous run
 pub mod Machine
+-- when a run is on time, and when no schedule can be
+pub mod Lateness
 -- rows at work as a run holds them
 pub mod Places
 -- what no promise cites
