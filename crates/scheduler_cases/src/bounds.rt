@@ -3,10 +3,16 @@ use crate::cases;
 use crate::made;
 use crate::said;
 use scheduler::Late;
+use scheduler::Run;
 
 // The table.
 pub fn table_clauses() {
     let run = cases::case_9();
+    said::ask(
+        b"6, what stands beside a refused fresh run",
+        Run::fresh(&[0, 5, 5], &[1, 4]).run,
+        &[],
+    );
     said::ask(b"6, no task", made::with_counts(run, 0, 1), &[0]);
     said::ask(b"6, 65 tasks", made::with_counts(run, 65, 1), &[0, 0, 0]);
     said::ask(b"6, 17 handlers", made::with_counts(run, 2, 17), &[0, 0, 0]);

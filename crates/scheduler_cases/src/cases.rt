@@ -1,4 +1,5 @@
 // Cases 13 and 14, and cases with a deadline before the next arrival.
+use crate::said::ask;
 use crate::said::say;
 use crate::said::step;
 use scheduler::Run;
@@ -55,6 +56,31 @@ fn both_arrive(fresh: Run, c: u32, p: u64, d: u32, q: u64, ticks: u64) {
         t += 1;
     }
     say(b"\n");
+}
+
+// Who gets a tick, and who is told late, where several would: the lowest row of tasks with one deadline, the earlier deadline of a later
+// row, the first of two handlers, the first of two late tasks.
+pub fn choices() {
+    ask(
+        b"two tasks due at 4",
+        Run::fresh(&[1, 4, 4, 1, 4, 4], &[]).run,
+        &[1, 1],
+    );
+    ask(
+        b"due at 8 and at 4",
+        Run::fresh(&[1, 8, 8, 1, 4, 4], &[]).run,
+        &[1, 1],
+    );
+    ask(
+        b"two handlers",
+        Run::fresh(&[1, 2, 2], &[1, 9, 1, 4]).run,
+        &[1, 1, 1],
+    );
+    ask(
+        b"two late",
+        Run::fresh(&[1, 2, 2, 1, 1, 1, 1, 1, 1], &[1, 9]).run,
+        &[1, 1, 1, 1],
+    );
 }
 
 // A deadline before the next arrival: 2 of 4 ticks are too few beside the handler, 3 are enough.

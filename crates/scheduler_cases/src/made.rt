@@ -79,6 +79,13 @@ pub fn with_late(run: Run, over: bool, late: Late) -> Run {
     }
 }
 
+// Task 0, of cost 2 and period 5, owed 1 and due at 1000000000, at that clock, over and late.
+pub fn over_at_last() -> Run {
+    let last = 1000000000;
+    let due = with_owed(with_due(with_next(cases::case_9(), 0, last), 0, last), 0, 1);
+    with_late(with_clock(due, last), true, Late::Task { row: 0 })
+}
+
 // Task 0, of cost 2 and period 5, owed 1 and due at 5, at clock 5.
 pub fn due_now() -> Run {
     with_clock(

@@ -1,5 +1,5 @@
-// Runs cases 13 and 14 and cases with a deadline before the next arrival, and asks for each refusal of a step, each clause of
-// refusal 6 among them.
+// Runs cases 13 and 14, cases with a deadline before the next arrival and ticks that several would get, and asks for each refusal
+// of a step, each clause of refusal 6 among them.
 mod bounds;
 mod cases;
 mod made;
@@ -10,6 +10,7 @@ fn main() {
     let over = cases::case_13();
     cases::case_14();
     cases::deadlines();
+    cases::choices();
     bounds::table_clauses();
     bounds::place_clauses();
     bounds::row_clauses();

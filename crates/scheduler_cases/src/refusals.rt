@@ -33,6 +33,7 @@ pub fn later_refusals(over: Run) {
 pub fn edges() {
     let run = cases::case_9();
     said::ask(b"6 before 9", made::with_clock(run, 1000000001), &[0]);
+    said::ask(b"7 before 8", made::over_at_last(), &[0, 0, 0]);
     said::ask(
         b"7 before 9",
         made::with_late(made::due_now(), true, Late::Task { row: 0 }),

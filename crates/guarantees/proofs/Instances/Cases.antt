@@ -80,7 +80,7 @@ unfolding freshOf freshRun tableRefusal firstRefusal tableTests some tasksOf han
 accepted-6 = refl
 
 -- What is accepted there is what is legal.
-legal-6 : (ws : List ℕ) → LegalOnly (freshOf tasks-6 handlers-6 .run) ws
+pub legal-6 : (ws : List ℕ) → LegalOnly (freshOf tasks-6 handlers-6 .run) ws
 unfolding freshOf freshRun tableRefusal firstRefusal tableTests some tasksOf handlersOf
 legal-6 ws = legal-arrivals (freshOf tasks-6 handlers-6 .run) ws (fresh-in-bounds tasks-6 handlers-6 ready-6) refl (omega arith)
 
