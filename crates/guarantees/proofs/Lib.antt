@@ -2,6 +2,7 @@ pub mod LegalArrivals
 pub mod PeriodApart
 pub mod View
 pub mod Patterns
+pub mod Rhythm
 pub mod Synchronous
 pub mod Named
 pub mod NeverLate

@@ -52,7 +52,7 @@ serve-by-none true = refl
 serve-by-none false = refl
 
 -- No multiple of p lies strictly between t and t + p where t is one.
-between : (t n p : ℕ) → t < n → n < t + p → n % p ≡ 0 → t % p ≡ 0 → ⊥
+pub between : (t n p : ℕ) → t < n → n < t + p → n % p ≡ 0 → t % p ≡ 0 → ⊥
 between t n p l h en et =
     let d : ℕ = n - t in
     let sum : t + d ≡ n = omega arith in
