@@ -11,7 +11,7 @@ use Rattle.demand.specs.Limits.{tasksMost}
 use Rattle.demand.specs.Refusals.{tableRefusal}
 use Rattle.demand.specs.Tests.{pick}
 use Rattle.machine.specs.Live.{dueOf}
-use Rattle.scheduler.specs.Promise.{startFigures, FreshSays, StepSays}
+use Rattle.scheduler.specs.Promise.{figures, startFigures, FreshSays, StepSays}
 use Rattle.scheduler.specs.Runs.{runOf}
 use Rattle.scheduler.specs.Scans.{firstOf}
 use Rattle.scheduler.specs.Start.{noRun, freshRun}
@@ -22,6 +22,7 @@ use Rattle.scheduler.specs.declared.Fresh.{Fresh}
 use Rattle.scheduler.specs.declared.Late.{Late}
 use Rattle.scheduler.specs.declared.Late.the-variants as late
 use Rattle.scheduler.specs.declared.Ran.{Ran}
+use Rattle.scheduler.specs.declared.Ran.the-variants as ran
 use Rattle.scheduler.specs.declared.Run.{Run}
 use Rattle.scheduler.specs.declared.Stepped.{Stepped}
 use Rattle.scheduler.proofs.Promise.{fresh-unique, step-unique}
@@ -29,7 +30,7 @@ use Rattle.scheduler.proofs.Steps.Answers.{passed, step-refused, Outcome, outco
 use Rattle.scheduler.proofs.Steps.Answers.Outcome.{stays, goes}
 use Rattle.scheduler.proofs.Steps.Clauses.{clauses, clauses-fit}
 use Rattle.scheduler.proofs.Steps.Tables.{fresh-ready}
-use Rattle.harness.specs.Numbers.{lateNumber, lateOf, overOf, layout, runNumbers, refusedNumbers, refusedLayout, runIn, leftWith, leftBy, StepLaid, FreshLaidUnique, StepLaidUnique, RefusedKeeps}
+use Rattle.harness.specs.Numbers.{answerNumbers, numbersOf, FiguresLaid, lateNumber, lateOf, overOf, layout, runNumbers, refusedNumbers, refusedLayout, runIn, leftWith, leftBy, StepLaid, FreshLaidUnique, StepLaidUnique, RefusedKeeps}
 
 -- ---- a late row that is told is one of at most 64
 
@@ -164,3 +165,18 @@ refused-keeps t h next due owed fs ws next' due' owed' fs' laid some =
       owed-kept = laid .owed-laid ∙ ap (λ (x : Run). x .owed) same;
       figures-kept = laid .figures-laid ∙ ap (leftWith fs (laid .stepped .run)) is;
     }
+
+-- ---- what is laid out of an answer are its figures
+
+ticked-laid : (ran : Ran) (late : Late) → answerNumbers 0 ran late ≡ numbersOf (figures (Ticked ran late))
+unfolding figures
+ticked-laid (ran.Handler i) late.Nobody = refl
+ticked-laid (ran.Handler i) (late.Task j) = refl
+ticked-laid (ran.Task i) late.Nobody = refl
+ticked-laid (ran.Task i) (late.Task j) = refl
+ticked-laid ran.Idle late.Nobody = refl
+ticked-laid ran.Idle (late.Task j) = refl
+
+pub figures-laid : FiguresLaid
+unfolding figures
+figures-laid = record { ticked = ticked-laid; refused = λ k. refl }

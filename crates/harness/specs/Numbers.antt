@@ -5,6 +5,7 @@
 --   ranNumber              == who ran, as a number
 --   runNumbers r           == the five numbers of a run; answerNumbers, refusedNumbers the four of an answer; layout all nine
 --   refusedLayout fs code  == all nine of a refusal, where the run's were the first of fs
+--   numbersOf g            == the four numbers of the figures g of an answer; FiguresLaid: those are what is laid out
 --   runIn t h next due owed fs   == the run that lent arrays tell
 --   leftBy fs s            == the figures after a step: those of a refused one keep the run's five as they were
 --   FreshLaid, StepLaid    what a call leaves, of an answer that the promise of `fresh` or `step` allows
@@ -18,7 +19,7 @@ use lib.Dec.{eqb}
 use lib.ListN.{getD}
 use Rattle.demand.specs.Tests.{pick}
 use Rattle.machine.specs.Live.{dueOf}
-use Rattle.scheduler.specs.Promise.{rowRan, startFigures, FreshSays, StepSays}
+use Rattle.scheduler.specs.Promise.{Who, nobody, handler, task, Figures, figures, rowRan, startFigures, FreshSays, StepSays}
 use Rattle.scheduler.specs.Runs.{runOf}
 use Rattle.scheduler.specs.Steps.{stepRefusal}
 use Rattle.scheduler.specs.declared.Answer.{Answer}
@@ -74,6 +75,25 @@ refusedLayout fs code = runAs fs ++ refusedNumbers code
 abbrev pub runIn : List ℕ → List ℕ → List ℕ → List ℕ → List ℕ → List ℕ → Run
 runIn t h next due owed fs =
     runOf t h (getD fs 0 0) (getD fs 1 0) (getD fs 2 0) next due owed (overOf (getD fs 3 0)) (lateOf (getD fs 4 0))
+
+-- ---- the figures of an answer (crate scheduler) in this layout
+
+abbrev pub whoNumber : Who → ℕ
+whoNumber nobody = 0
+whoNumber handler = 1
+whoNumber task = 2
+
+abbrev pub rowNumber : Who → ℕ → ℕ
+rowNumber nobody i = 0
+rowNumber handler i = i + 1
+rowNumber task i = i + 1
+
+abbrev pub numbersOf : Figures → List ℕ
+numbersOf g = g .code ∷ whoNumber (g .ran) ∷ g .row ∷ rowNumber (g .late) (g .lateRow) ∷ []
+
+pub record FiguresLaid : Type 0 where
+  pub ticked : (ran : Ran) (late : Late) → answerNumbers 0 ran late ≡ numbersOf (figures (Ticked ran late))
+  pub refused : (k : ℕ) → refusedNumbers k ≡ numbersOf (figures (Refused k))
 
 -- ---- what is left in the arrays
 
