@@ -6,13 +6,11 @@ use mathlib.Core.Path.{_≡_, refl, sym, ap, subst, _∙_}
 use native.Mathlib.Nat.{eq-zero-or-pos}
 use native.Mathlib.Omega.{arith}
 use Prim.Native.Nat.{ℕ, zero, suc, _≤_, _<_}
-use lib.ListN.{getD}
 use Rattle.demand.specs.Limits.{tasksMost}
 use Rattle.demand.specs.Refusals.{tableRefusal}
 use Rattle.demand.specs.Tests.{pick}
 use Rattle.machine.specs.Live.{dueOf}
 use Rattle.scheduler.specs.Promise.{figures, startFigures, FreshSays, StepSays}
-use Rattle.scheduler.specs.Runs.{runOf}
 use Rattle.scheduler.specs.Scans.{firstOf}
 use Rattle.scheduler.specs.Start.{noRun, freshRun}
 use Rattle.scheduler.specs.Steps.{stepRefusal}
@@ -30,7 +28,7 @@ use Rattle.scheduler.proofs.Steps.Answers.{passed, step-refused, Outcome, outco
 use Rattle.scheduler.proofs.Steps.Answers.Outcome.{stays, goes}
 use Rattle.scheduler.proofs.Steps.Clauses.{clauses, clauses-fit}
 use Rattle.scheduler.proofs.Steps.Tables.{fresh-ready}
-use Rattle.harness.specs.Numbers.{answerNumbers, numbersOf, FiguresLaid, lateNumber, lateOf, overOf, layout, runNumbers, refusedNumbers, refusedLayout, runIn, leftWith, leftBy, StepLaid, FreshLaidUnique, StepLaidUnique, RefusedKeeps}
+use Rattle.harness.specs.Numbers.{answerNumbers, numbersOf, FiguresLaid, lateNumber, layout, runNumbers, refusedNumbers, refusedLayout, runIn, leftWith, leftBy, StepLaid, FreshLaidUnique, StepLaidUnique, RefusedKeeps}
 
 -- ---- a late row that is told is one of at most 64
 
@@ -92,43 +90,36 @@ ticked-late r ws s says ran now is = go (outcome dueOf r ws)
 
 -- ---- what a step leaves
 
--- The step of a run that lent arrays tell, from the numbers that the code has in hand.
-module _ (t h next due owed fs ws : List ℕ) (over : Bool) (late : Late) (is-over : over ≡ overOf (getD fs 3 0)) (is-late : late ≡ lateOf (getD fs 4 0)) where
-  abbrev given : Run
-  given = runOf t h (getD fs 0 0) (getD fs 1 0) (getD fs 2 0) next due owed over late
+-- The step of the run that lent arrays tell.
+module _ (t h next due owed fs ws : List ℕ) (given : Run) (told : given ≡ runIn t h next due owed fs) (s : Stepped) (says : StepSays dueOf given ws s) where
+  says-in : StepSays dueOf (runIn t h next due owed fs) ws s
+  says-in = subst (λ (r : Run). StepSays dueOf r ws s) told says
 
-  given-is : given ≡ runIn t h next due owed fs
-  given-is = λ i. runOf t h (getD fs 0 0) (getD fs 1 0) (getD fs 2 0) next due owed (is-over i) (is-late i)
+  -- A tick lays the next run.
+  pub laid-ticked : (ran : Ran) (now : Late) → s .answer ≡ Ticked ran now → (left : List ℕ) → left ≡ layout (s .run) 0 ran now
+      → StepLaid (runIn t h next due owed fs) fs ws (s .run .next) (s .run .due) (s .run .owed) left
+  laid-ticked ran now is left e = record {
+    stepped = s;
+    says = says-in;
+    next-laid = refl;
+    due-laid = refl;
+    owed-laid = refl;
+    figures-laid = e ∙ sym (ap (leftWith fs (s .run)) is);
+  }
 
-  module _ (s : Stepped) (says : StepSays dueOf given ws s) where
-    says-in : StepSays dueOf (runIn t h next due owed fs) ws s
-    says-in = subst (λ (r : Run). StepSays dueOf r ws s) given-is says
-
-    -- A tick lays the next run.
-    pub laid-ticked : (ran : Ran) (now : Late) → s .answer ≡ Ticked ran now → (left : List ℕ) → left ≡ layout (s .run) 0 ran now
-        → StepLaid (runIn t h next due owed fs) fs ws (s .run .next) (s .run .due) (s .run .owed) left
-    laid-ticked ran now is left e = record {
-      stepped = s;
-      says = says-in;
-      next-laid = refl;
-      due-laid = refl;
-      owed-laid = refl;
-      figures-laid = e ∙ sym (ap (leftWith fs (s .run)) is);
-    }
-
-    -- A refusal leaves all that the run had.
-    pub laid-refused : (k : ℕ) → s .answer ≡ Refused k → (left : List ℕ) → left ≡ refusedLayout fs k
-        → StepLaid (runIn t h next due owed fs) fs ws next due owed left
-    laid-refused k is left e =
-        let same : s .run ≡ given = refused-same given ws s says k is in
-        record {
-          stepped = s;
-          says = says-in;
-          next-laid = ap (λ (r : Run). r .next) (sym same);
-          due-laid = ap (λ (r : Run). r .due) (sym same);
-          owed-laid = ap (λ (r : Run). r .owed) (sym same);
-          figures-laid = e ∙ sym (ap (leftWith fs (s .run)) is);
-        }
+  -- A refusal leaves all that the run had.
+  pub laid-refused : (k : ℕ) → s .answer ≡ Refused k → (left : List ℕ) → left ≡ refusedLayout fs k
+      → StepLaid (runIn t h next due owed fs) fs ws next due owed left
+  laid-refused k is left e =
+      let same : s .run ≡ runIn t h next due owed fs = refused-same given ws s says k is ∙ told in
+      record {
+        stepped = s;
+        says = says-in;
+        next-laid = ap (λ (r : Run). r .next) (sym same);
+        due-laid = ap (λ (r : Run). r .due) (sym same);
+        owed-laid = ap (λ (r : Run). r .owed) (sym same);
+        figures-laid = e ∙ sym (ap (leftWith fs (s .run)) is);
+      }
 
 -- ---- what a call leaves is determined
 

@@ -11,6 +11,7 @@ ghost use Rattle.scheduler.specs.Books.{busyBy};
 ghost use Rattle.scheduler.specs.Start.{freshOf};
 ghost use Rattle.scheduler.specs.Steps.{stepOf};
 use crate::numbers::FIGURES;
+use crate::numbers::TASKS_MOST;
 use scheduler::Answer;
 use scheduler::Late;
 use scheduler::Ran;
@@ -18,9 +19,6 @@ use scheduler::Run;
 use scheduler::sizes::HANDLER_NUMBERS;
 use scheduler::sizes::PLACES;
 use scheduler::sizes::TASK_NUMBERS;
-
-// The tasks that a run has room for.
-const TASKS_MOST: usize = Run::TASKS_MOST;
 
 // A fresh run, laid into the lent arrays.
 #[no_mangle]
@@ -68,25 +66,7 @@ pub extern "C" fn harness_step(
         (now (figures .entry))) (now (figures .entry)) (now (arrivals .entry))
         (now (next .exit)) (now (due .exit)) (now (owed .exit)) (now (figures .exit)) ⌝ }
 {
-    let tasks = *t;
-    let handlers = *h;
-    let old_next = *next;
-    let old_due = *due;
-    let old_owed = *owed;
-    let late = numbers::late_of(figures[4]);
-    let over = numbers::over_of(figures[3]);
-    let run = Run {
-        tasks,
-        handlers,
-        task_count: figures[0] as usize,
-        handler_count: figures[1] as usize,
-        clock: figures[2],
-        next: old_next,
-        due: old_due,
-        owed: old_owed,
-        over,
-        late,
-    };
+    let run = numbers::run_in(t, h, next, due, owed, figures);
     let stepped = run.step(arrivals);
     let after = stepped.run;
     let answer = stepped.answer;

@@ -2,7 +2,7 @@
 ghost use mathlib.Core.Path.{_≡_};
 ghost use Prim.Native.Nat.{_≤_};
 ghost use Rattle.demand.specs.Limits.{tasksMost};
-ghost use Rattle.harness.specs.Numbers.{lateOf, lateNumber, overOf, overNumber, ranNumber, layout, refusedLayout};
+ghost use Rattle.harness.specs.Numbers.{lateOf, lateNumber, overOf, overNumber, ranNumber, layout, refusedLayout, runIn};
 ghost use Rattle.scheduler.specs.Books.{busy};
 ghost use Rattle.scheduler.specs.Promise.{startFigures, rowRan};
 use scheduler::Answer;
@@ -10,6 +10,12 @@ use scheduler::Late;
 use scheduler::Ran;
 use scheduler::Run;
 use scheduler::Start;
+use scheduler::sizes::HANDLER_NUMBERS;
+use scheduler::sizes::PLACES;
+use scheduler::sizes::TASK_NUMBERS;
+
+// The tasks that a run has room for.
+pub const TASKS_MOST: usize = Run::TASKS_MOST;
 
 // How many figures a run and an answer have.
 pub const FIGURES: usize = 9;
@@ -91,6 +97,38 @@ pub fn busy(answer: Answer) -> u64
             Ran::Idle => 0,
         },
         Answer::Refused { number: _ } => 0,
+    }
+}
+
+// The run that lent arrays tell, whatever stands there.
+pub fn run_in(
+    t: &[u32; TASK_NUMBERS],
+    h: &[u32; HANDLER_NUMBERS],
+    next: &[u64; PLACES],
+    due: &[u64; TASKS_MOST],
+    owed: &[u64; PLACES],
+    figures: &[u64; FIGURES],
+) -> Run
+    ensures { λ r. ⌜ r ≡ runIn (now (t .entry)) (now (h .entry)) (now (next .entry)) (now (due .entry)) (now (owed .entry))
+        (now (figures .entry)) ⌝ }
+{
+    let tasks = *t;
+    let handlers = *h;
+    let own_next = *next;
+    let own_due = *due;
+    let own_owed = *owed;
+    let late = late_of(figures[4]);
+    Run {
+        tasks,
+        handlers,
+        task_count: figures[0] as usize,
+        handler_count: figures[1] as usize,
+        clock: figures[2],
+        next: own_next,
+        due: own_due,
+        owed: own_owed,
+        over: over_of(figures[3]),
+        late,
     }
 }
 

@@ -3,26 +3,8 @@ use Rattle.harness.proofs.Laid.{laid-ticked, ticked-late, laid-refused}
 use Rattle.harness.proofs.harness_step.Statement.{statement}
 use Rattle.harness.proofs.harness_step.Tie as tie
 
-element-copy-out-late-of : tie.Need-element-copy-out-late-of
-element-copy-out-late-of c = search needs
-
-late-of-requires : tie.Need-late-of-requires
-late-of-requires c κs = search needs
-
-element-copy-out-over-of : tie.Need-element-copy-out-over-of
-element-copy-out-over-of c = search needs
-
-over-of-requires : tie.Need-over-of-requires
-over-of-requires c κs = search needs
-
-element-copy-out-t28 : tie.Need-element-copy-out-t28
-element-copy-out-t28 c = search needs
-
-element-copy-out-t36 : tie.Need-element-copy-out-t36
-element-copy-out-t36 c = search needs
-
-element-copy-out-t40 : tie.Need-element-copy-out-t40
-element-copy-out-t40 c = search needs
+run-in-requires : tie.Need-run-in-requires
+run-in-requires c κs = search needs
 
 step-requires : tie.Need-step-requires
 step-requires c κs = search needs
@@ -44,24 +26,18 @@ refused-figures-requires c κs = search needs
 returns : tie.Need-returns
 returns c =
     let step = c .before .before .before .before .before .before .before .before .step in
-    laid-ticked _ _ _ _ _ _ _ _ _ (c .before .before .before .before .before .before .before .before .before .before .before .before .over-of .ensures) (c .before .before .before .before .before .before .before .before .before .before .before .before .before .before .late-of .ensures) (step .result) (step .ensures) _ _ (c .before .before .before .before .before .answer .given .1) _ (c .run-figures .ensures)
+    laid-ticked _ _ _ _ _ _ _ _ (c .before .before .before .before .before .before .before .before .before .run-in .ensures) (step .result) (step .ensures) _ _ (c .before .before .before .before .before .answer .given .1) _ (c .run-figures .ensures)
 
 returns-2 : tie.Need-returns-2
 returns-2 c =
     let step = c .before .before .before .before .before .before .before .step in
-    laid-refused _ _ _ _ _ _ _ _ _ (c .before .before .before .before .before .before .before .before .before .before .before .over-of .ensures) (c .before .before .before .before .before .before .before .before .before .before .before .before .before .late-of .ensures) (step .result) (step .ensures) _ (c .before .before .before .before .answer2 .given .1) _ (c .refused-figures .ensures)
+    laid-refused _ _ _ _ _ _ _ _ (c .before .before .before .before .before .before .before .before .run-in .ensures) (step .result) (step .ensures) _ (c .before .before .before .before .answer2 .given .1) _ (c .refused-figures .ensures)
 
 pub harness-step-spec : {M : Type 1} → statement M
 harness-step-spec =
     tie.close
     (tie.spec
-    element-copy-out-late-of
-    late-of-requires
-    element-copy-out-over-of
-    over-of-requires
-    element-copy-out-t28
-    element-copy-out-t36
-    element-copy-out-t40
+    run-in-requires
     step-requires
     enum-known-answer
     run-figures-requires
