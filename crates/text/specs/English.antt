@@ -21,7 +21,7 @@ phrases =
     ∷ ascii "an arrival comes before the row's next legal tick"
     ∷ ascii "an arrival brings more than the row's cost"
     ∷ ascii "the file breaks the layout below"
-    ∷ ascii "a deadline is 0 or above its period, or a handler has one"
+    ∷ ascii "deadline 0 or above its period, or a handler with one"
     ∷ []
 
 unfoldable pub english : ℕ → List ℕ

@@ -43,7 +43,7 @@ pub fn line(number: u32) -> Text
         1..=5 => of_table(number),
         6..=11 => of_run(number),
         12 => of(b"the file breaks the layout below"),
-        13 => of(b"a deadline is 0 or above its period, or a handler has one"),
+        13 => of(b"deadline 0 or above its period, or a handler with one"),
         _ => of(b"unknown"),
     }
 }
