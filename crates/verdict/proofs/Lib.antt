@@ -12,5 +12,6 @@ pub mod Lightening
 pub mod Full
 pub mod Cases
 pub mod DyeHouse
+pub mod Instances
 pub mod Inside
 pub mod Sayings
