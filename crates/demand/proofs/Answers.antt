@@ -8,11 +8,9 @@ use lib.IntN.{ℤ}
 use Rattle.demand.specs.Answers.{figures, handlerFigures, marginFigures, figuresBy, DemandSays, HandlerSays, MarginSays}
 use Rattle.demand.specs.Demands.{handled, left, margin, Negative}
 use Rattle.demand.specs.Rows.{Row}
-use Rattle.demand.specs.declared.DemandAnswer.{DemandAnswer}
+use Rattle.demand.specs.Unique.{DemandUnique, HandlerUnique, MarginUnique}
 use Rattle.demand.specs.declared.DemandAnswer.the-variants as demand
-use Rattle.demand.specs.declared.HandlerAnswer.{HandlerAnswer}
 use Rattle.demand.specs.declared.HandlerAnswer.the-variants as handler
-use Rattle.demand.specs.declared.MarginAnswer.{MarginAnswer}
 use Rattle.demand.specs.declared.MarginAnswer.the-variants as answer
 use Rattle.demand.proofs.Signs.{negative-fails, fails-negative}
 
@@ -58,11 +56,11 @@ margin-refused (suc k) ts hs l j some q = record {
 }
 
 -- Two answers that the promise allows are equal.
-pub demand-unique : (k n : ℕ) (r s : DemandAnswer) → DemandSays k n r → DemandSays k n s → r ≡ s
+pub demand-unique : DemandUnique
 demand-unique k n r s p q = p .answer ∙ sym (q .answer)
 
-pub handler-unique : (k : ℕ) (hs : List Row) (l : ℕ) (r s : HandlerAnswer) → HandlerSays k hs l r → HandlerSays k hs l s → r ≡ s
+pub handler-unique : HandlerUnique
 handler-unique k hs l r s p q = p .answer ∙ sym (q .answer)
 
-pub margin-unique : (k : ℕ) (ts hs : List Row) (l : ℕ) (r s : MarginAnswer) → MarginSays k ts hs l r → MarginSays k ts hs l s → r ≡ s
+pub margin-unique : MarginUnique
 margin-unique k ts hs l r s p q = p .answer ∙ sym (q .answer)

@@ -15,6 +15,8 @@ pub mod Wholes
 pub mod Refusals
 -- what the public calls answer
 pub mod Answers
+-- and that no other answer is allowed
+pub mod Unique
 -- a table under less (00, demand 3)
 pub mod Lighter
 -- figures of 01's sums done by hand, and the shortcuts that are not f

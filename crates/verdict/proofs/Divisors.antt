@@ -12,7 +12,7 @@ use Rattle.demand.specs.Rows.{Row, Positive, tasksOf, handlersOf}
 use Rattle.demand.proofs.Inside.Sizes.{tasks-valid, handlers-positive}
 use Rattle.demand.proofs.Periods.{lcm-from-positive, lcm-from-start, lcm-from-rows, lcm-from-least, lcm-from-le, capped-zero, capped-some}
 use Rattle.demand.proofs.Sums.{each-map, valid-positive}
-use Rattle.verdict.specs.Multiples.{common, LeastMultiple}
+use Rattle.verdict.specs.Multiples.{common, CommonLeast}
 
 pub common-positive : (ts hs : List Row) → Positive ts → Positive hs → 0 < common ts hs
 unfolding common
@@ -31,7 +31,7 @@ unfolding common
 period-divides ts hs n pt ph dt dh =
     lcm-from-least (lcmFrom 1 ts) n hs (lcm-from-positive 1 ts (omega arith) pt) ph (lcm-from-least 1 n ts (omega arith) pt (one-dvd n) dt) dh
 
-pub common-least : (ts hs : List Row) → Positive ts → Positive hs → LeastMultiple ts hs (common ts hs)
+pub common-least : CommonLeast
 common-least ts hs pt ph = record {
   positive = common-positive ts hs pt ph;
   tasks = common-tasks ts hs;

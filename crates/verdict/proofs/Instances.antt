@@ -14,11 +14,11 @@ use Rattle.demand.specs.Tests.{firstRefusal}
 use Rattle.demand.proofs.Lighter.{called-lighter, due-lighter}
 use Rattle.euclid.specs.Euclid.{gcd, lcm, euclid}
 use Rattle.verdict.specs.Full.{LoadTells}
-use Rattle.verdict.specs.Lengths.{TestLength}
+use Rattle.verdict.specs.Lengths.{TestLength, AlwaysPasses}
 use Rattle.verdict.specs.Lightening.{YesUnderLess}
 use Rattle.verdict.specs.Loads.{work, whole}
 use Rattle.verdict.specs.Multiples.{common}
-use Rattle.verdict.specs.Promise.{figures, verdictRefusal, AlwaysPasses, VerdictSays}
+use Rattle.verdict.specs.Promise.{figures, verdictRefusal, VerdictSays}
 use Rattle.verdict.specs.Promise.Word.{fits}
 use Rattle.verdict.specs.declared.Answer.{Answer}
 use Rattle.verdict.proofs.Cases.{short, short-zero}

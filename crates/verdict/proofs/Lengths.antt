@@ -11,7 +11,7 @@ use Rattle.demand.specs.Rows.{Row, Each, Valid}
 use Rattle.demand.proofs.Between.{due-next, passes-flat}
 use Rattle.demand.proofs.Demands.{passes-zero}
 use Rattle.demand.proofs.Divide.{le-or-lt}
-use Rattle.verdict.specs.Lengths.{TestLength, AlwaysPasses, LeastFailing}
+use Rattle.verdict.specs.Lengths.{TestLength, AlwaysPasses, LeastFailing, LeastIsTest}
 
 -- l is a deadline of no row
 abbrev pub NoDeadline : List Row → ℕ → Type 0
@@ -52,7 +52,7 @@ passes-below ts hs zero valid f = passes-zero ts hs valid
 passes-below ts hs (suc l) valid f = f .least (suc l) (omega arith) (omega arith)
 
 -- Only a deadline can be the least failing length.
-pub least-is-test : (ts hs : List Row) (l : ℕ) → Valid ts → LeastFailing ts hs l → TestLength ts l
+pub least-is-test : LeastIsTest
 least-is-test ts hs zero valid f = absurd (omega (arith, f .positive))
 least-is-test ts hs (suc l) valid f = go (test-or-none ts (suc l))
   where

@@ -8,6 +8,7 @@ use Rattle.demand.specs.Rows.{tasksOf, handlersOf}
 use Rattle.verdict.specs.Loads.{load}
 use Rattle.verdict.specs.Promise.{Word, Figures, figures, yesOf, noOf, numbersOf, missAt, SaysFits, SaysMisses, SaysRefused, SaysBy, Says, VerdictSays}
 use Rattle.verdict.specs.Promise.Word.{fits, misses, refused}
+use Rattle.verdict.specs.Unique.{VerdictUnique}
 use Rattle.verdict.specs.declared.Answer.{Answer}
 use Rattle.verdict.specs.declared.Answer.the-variants as answer
 use Rattle.verdict.proofs.Lengths.{least-unique, fits-never-fails}
@@ -87,6 +88,6 @@ figures-once (answer.Refused k) (answer.Fits m o) e = cc (ap (λ (f : Figures). 
 figures-once (answer.Refused k) (answer.Misses b m) e = cc (ap (λ (f : Figures). f .word) e)
 figures-once (answer.Refused k) (answer.Refused m) e = ap answer.Refused (ap (λ (f : Figures). f .code) e)
 
-pub verdict-unique : (t h : List ℕ) (r s : Answer) → VerdictSays t h r → VerdictSays t h s → r ≡ s
+pub verdict-unique : VerdictUnique
 unfolding VerdictSays
 verdict-unique t h r s a b = figures-once r s (says-unique t h (figures r) (figures s) a b)

@@ -13,6 +13,8 @@ pub mod Idle
 pub mod Tested
 -- what the verdict promises: refusals, yes, no, and their figures
 pub mod Promise
+-- and that no other answer is allowed
+pub mod Unique
 -- what a load says (M-100)
 pub mod Full
 -- a yes holds under less (00, demand 3)
