@@ -151,7 +151,10 @@ pub fn made_elsewhere(random: &mut Random, counts: &mut Counts) -> Result<(), Di
             4 => run.due[random.below(64) as usize] = random.one_of(&[value, near]),
             5 => run.owed[random.below(80) as usize] = random.one_of(&[value, near]),
             6 => run.over = !run.over,
-            7 => run.late = late(random.below(4)),
+            7 => {
+                let few = random.below(4);
+                run.late = late(random.one_of(&[value, few]));
+            }
             8 => run.tasks[random.below(192) as usize] = value as u32,
             _ => run.handlers[random.below(32) as usize] = value as u32,
         }
