@@ -1,5 +1,5 @@
 -- What `verdict` promises (00, demand 2; 01, "The verdict" and "Numbered refusals").
---   verdictRefusal t h   == the lowest refusal of 1 to 4 that applies, 0 for a readable table
+--   verdictRefusal t h   == the first refusal of 1, 2, 3, 13, 4 that applies, 0 for a readable table
 --   figures r            == the paper's word, number and values for each case of an answer; what does not apply is 0
 --   yesOf, noOf, refusalOf   == those of a yes, of a no and of a refusal
 --   numbersOf g          == the numbers of the figures g, in the order of the printed line
