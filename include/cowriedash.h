@@ -1,4 +1,4 @@
-/* Cowriedash for C: the verdict on a table and the two demands, without the scheduler.
+/* Cowriedash for C: the verdict on a table, the two demands and the responses by fixed priority, without the scheduler.
 
    A table is two lists of 32-bit numbers: tasks in threes (cost, period, deadline, cost, ..), each deadline from 1 to
    its period, and handlers in twos (cost, period, cost, ..).
@@ -45,6 +45,15 @@ void cowriedash_task_demand(const uint32_t *tasks, size_t tasks_count, const uin
    fails; left: the handlers' work left over at its end. Both are 0 if refused. */
 uint32_t cowriedash_margin(const uint32_t *tasks, size_t tasks_count, const uint32_t *handlers, size_t handlers_count,
                            uint64_t l, int64_t *out, uint64_t *left);
+
+/* The most tasks of a table, and so the places of out. */
+enum { COWRIEDASH_TASKS_MOST = 64 };
+
+/* By fixed priority, the shorter period first, the lower row on a tie. Returns the refusal's number (1, 2, 3 or 13) or 0; out: for each
+   task the least length from 1 to its deadline with room for all that handlers, the tasks above it and itself may ask within it, 0 where
+   there is none, past the last task and if refused. H may be of any size. At most a million turns, each through all rows. */
+uint32_t cowriedash_responses(const uint32_t *tasks, size_t tasks_count, const uint32_t *handlers, size_t handlers_count,
+                              uint64_t out[64]);
 
 #ifdef __cplusplus
 }

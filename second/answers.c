@@ -1,5 +1,6 @@
 /* The proved libraries at the far end of a pipe: a question in, its answer out, so that the second program links none of them.
-   A question is its number (1 verdict, 2 handler demand, 3 task demand, 4 margin, 5 fresh, 6 step) and what it asks about. */
+   A question is its number (1 verdict, 2 handler demand, 3 task demand, 4 margin, 5 fresh, 6 step, 7 responses, 8 step by priority) and
+   what it asks about. */
 #include <stdint.h>
 #include <stdio.h>
 #include <stdlib.h>
@@ -10,6 +11,8 @@ void harness_fresh(const uint32_t *tasks, size_t tasks_count, const uint32_t *ha
                    uint32_t h[32], uint64_t next[80], uint64_t due[64], uint64_t owed[80], uint64_t figures[9]);
 void harness_step(const uint32_t t[192], const uint32_t h[32], uint64_t next[80], uint64_t due[64], uint64_t owed[80],
                   uint64_t figures[9], const uint32_t *arrivals, size_t count);
+void harness_step_by_priority(const uint32_t t[192], const uint32_t h[32], uint64_t next[80], uint64_t due[64], uint64_t owed[80],
+                              uint64_t figures[9], const uint32_t *arrivals, size_t count);
 
 enum { MOST = 1 << 16 };
 
@@ -51,6 +54,7 @@ static struct {
 
 static void answer(uint64_t question) {
     uint64_t out[COWRIEDASH_NUMBERS] = {0};
+    uint64_t lengths[COWRIEDASH_TASKS_MOST];
     int64_t ticks = 0;
     switch (question) {
     case 1:
@@ -83,6 +87,18 @@ static void answer(uint64_t question) {
         get(&run, sizeof run);
         tasks_count = list(tasks);
         harness_step(run.t, run.h, run.next, run.due, run.owed, run.figures, tasks, tasks_count);
+        put(&run, sizeof run);
+        break;
+    case 7:
+        table();
+        out[0] = cowriedash_responses(tasks, tasks_count, handlers, handlers_count, lengths);
+        put(out, sizeof *out);
+        put(lengths, sizeof lengths);
+        break;
+    case 8:
+        get(&run, sizeof run);
+        tasks_count = list(tasks);
+        harness_step_by_priority(run.t, run.h, run.next, run.due, run.owed, run.figures, tasks, tasks_count);
         put(&run, sizeof run);
         break;
     default:

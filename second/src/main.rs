@@ -1,12 +1,16 @@
 //! Compares the proved library with the slow second program on many tables.
-//!     second SEED COUNT FIT ANSWERS    COUNT tables of each kind through the program ANSWERS (second/answers.c), and as many files
-//!                                      through the program FIT; ends with status 1 at the first difference, and prints what shows it
+//!     second SEED COUNT FIT ANSWERS BY_PRIORITY
+//!                                      COUNT tables of each kind through the program ANSWERS (second/answers.c), and as many files
+//!                                      through the programs FIT and BY_PRIORITY; ends with status 1 at the first difference, and prints
+//!                                      what shows it
+//!     second priority PATIENCE         the same of the lines that `by_priority` must print; every length up to the deadline is tried
 //!     second fit PATIENCE              reads a table file from standard input and prints the lines that `fit` must print, or, where no length up
 //!                                      to PATIENCE fails and that settles nothing, `patience PATIENCE LENGTH`: how far it would have to go
 
 mod files;
 mod idle;
 mod model;
+mod priority;
 mod proved;
 mod random;
 mod scheduler;
@@ -33,6 +37,10 @@ struct Counts {
     /// Tables with an idle point, and tables without one.
     idle: [u64; 2],
     questions: u64,
+    /// Tables whose responses were compared, and tasks that have one and that have none.
+    ranked: u64,
+    in_time: u64,
+    late: u64,
 }
 
 fn differ(what: &str, table: &Table, ours: String, theirs: String) -> ! {
@@ -132,10 +140,28 @@ fn judge(table: &Table, counts: &mut Counts) {
     }
 }
 
-/// Whole runs, and steps of runs made elsewhere.
+/// How many lengths are tried for a response.
+const LENGTHS: u128 = 1_000;
+
+/// The responses by fixed priority.
+fn rank(table: &Table, counts: &mut Counts) {
+    let Some((code, mut want)) = priority::responses(&table.tasks, &table.handlers, LENGTHS) else { return };
+    counts.in_time += want.iter().filter(|&&l| l > 0).count() as u64;
+    counts.late += want.iter().filter(|&&l| l == 0).count() as u64;
+    want.resize(64, 0);
+    let got = proved::responses(&table.tasks, &table.handlers);
+    if got != (code, want.clone()) {
+        differ("responses", table, format!("{got:?}"), format!("{:?}", (code, want)));
+    }
+    counts.ranked += 1;
+}
+
+/// Whole runs, by deadline and by priority, and steps of runs made elsewhere.
 fn run_all(random: &mut Random, table: &Table, steps: &mut steps::Counts) {
-    if let Err(what) = steps::whole(random, table, 60, steps) {
-        differ(&what, table, String::new(), String::new());
+    for by in [scheduler::By::Deadline, scheduler::By::Priority] {
+        if let Err(what) = steps::whole(random, table, 60, by, steps) {
+            differ(&what, table, String::new(), String::new());
+        }
     }
     for _ in 0..3 {
         if let Err(what) = steps::made_elsewhere(random, steps) {
@@ -144,12 +170,12 @@ fn run_all(random: &mut Random, table: &Table, steps: &mut steps::Counts) {
     }
 }
 
-/// Files through the program, damaged ones among them. How many were compared, and how many of them break the layout.
-fn read_all(random: &mut Random, count: u64, program: &str) -> (u64, u64) {
+/// Files through a program, damaged ones among them. How many were compared, and how many of them break the layout.
+fn read_all(random: &mut Random, count: u64, program: &str, lines: fn(&[u8]) -> Option<String>) -> (u64, u64) {
     let (mut compared, mut broken) = (0, 0);
     for _ in 0..count {
         let file = files::file(random);
-        let Ok(want) = files::sheet(&file, PATIENCE) else { continue };
+        let Some(want) = lines(&file) else { continue };
         let got = files::run(program, &file);
         if got != want {
             println!("DIFFERENT sheet: proved {got:?}, second program {want:?}");
@@ -162,17 +188,21 @@ fn read_all(random: &mut Random, count: u64, program: &str) -> (u64, u64) {
     (compared, broken)
 }
 
-/// What `fit` must print of the table file on standard input.
-fn print_sheet(patience: u128) {
+/// What a program must print of the table file on standard input.
+fn print_lines(command: &str, patience: u128) {
     let mut file = vec![];
     // One byte more than a file may have, so that a longer one is known as such.
     if let Err(error) = std::io::stdin().take(4097).read_to_end(&mut file) {
         eprintln!("second: standard input could not be read to its end: {error}");
         exit(3);
     }
-    match files::sheet(&file, patience) {
-        Ok(lines) => print!("{lines}"),
-        Err(length) => println!("patience {patience} {length}"),
+    match command {
+        "fit" => match files::sheet(&file, patience) {
+            Ok(lines) => print!("{lines}"),
+            Err(length) => println!("patience {patience} {length}"),
+        },
+        // No deadline is longer than a million ticks.
+        _ => print!("{}", priority::lines(&file, model::FIGURE).unwrap()),
     }
 }
 
@@ -180,13 +210,13 @@ fn main() {
     let words: Vec<String> = std::env::args().skip(1).collect();
     if let [command, patience] = &words[..] {
         match (command.as_str(), patience.parse()) {
-            ("fit", Ok(patience)) => return print_sheet(patience),
+            (command @ ("fit" | "priority"), Ok(patience)) => return print_lines(command, patience),
             _ => {}
         }
     }
     let numbers: Vec<u64> = words.iter().filter_map(|a| a.parse().ok()).collect();
-    let ([seed, count], Some(program), Some(answers)) = (&numbers[..], words.get(2), words.get(3)) else {
-        eprintln!("usage: second SEED COUNT FIT ANSWERS, or second fit PATIENCE");
+    let ([seed, count], [_, _, program, answers, ranked]) = (&numbers[..], &words[..]) else {
+        eprintln!("usage: second SEED COUNT FIT ANSWERS BY_PRIORITY, or second fit PATIENCE, or second priority PATIENCE");
         exit(2);
     };
     proved::start(answers);
@@ -198,6 +228,7 @@ fn main() {
         for kind in [tables::small, tables::hostile, tables::wide] {
             let table = kind(&mut random);
             judge(&table, &mut counts);
+            rank(&table, &mut counts);
             for _ in 0..3 {
                 let l = random.from_to(0, 300);
                 ask(&table, l, &mut counts);
@@ -217,9 +248,15 @@ fn main() {
     );
     println!("seed {seed}: {} idle points where W and H put them, {} tables without one, 0 differences", counts.idle[0], counts.idle[1]);
     println!(
-        "seed {seed}: {} runs, {} steps compared ({} late, refused 6 to 11: {:?}), 0 differences",
-        steps.runs, steps.ticks, steps.late, &steps.refused[6..]
+        "seed {seed}: {} runs, {} steps compared ({} by priority; {} late, refused 6 to 11: {:?}), 0 differences",
+        steps.runs, steps.ticks, steps.ranked, steps.late, &steps.refused[6..]
     );
-    let (compared, broken) = read_all(&mut random, count, program);
+    println!(
+        "seed {seed}: responses of {} tables compared ({} tasks have one, {} have none), 0 differences",
+        counts.ranked, counts.in_time, counts.late
+    );
+    let (compared, broken) = read_all(&mut random, count, program, |file| files::sheet(file, PATIENCE).ok());
     println!("seed {seed}: {compared} files compared ({broken} broken), 0 differences");
+    let (compared, broken) = read_all(&mut random, count, ranked, |file| priority::lines(file, LENGTHS));
+    println!("seed {seed}: {compared} files compared by priority ({broken} broken), 0 differences");
 }

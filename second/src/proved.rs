@@ -88,3 +88,9 @@ pub fn margin(t: &[u32], h: &[u32], l: u64) -> (u64, u64, i64) {
     let out = about(4, t, h).number(l).answer(24).longs(3);
     (out[0], out[1], out[2] as i64)
 }
+
+/// The refusal's number or 0, and 64 lengths.
+pub fn responses(t: &[u32], h: &[u32]) -> (u32, Vec<u64>) {
+    let mut out = about(7, t, h).answer(65 * 8);
+    (out.longs(1)[0] as u32, out.longs(64))
+}

@@ -134,8 +134,15 @@ fn refusal(run: &Run, arrivals: &[u32]) -> u32 {
     0
 }
 
+/// By which number tasks are chosen.
+#[derive(Clone, Copy, Debug, PartialEq)]
+pub enum By {
+    Deadline,
+    Priority,
+}
+
 /// A step: the run that comes back, and the answer.
-pub fn step(run: &Run, arrivals: &[u32]) -> (Run, Answer) {
+pub fn step(run: &Run, arrivals: &[u32], by: By) -> (Run, Answer) {
     let code = refusal(run, arrivals);
     if code != 0 {
         return (run.clone(), Answer::Refused(code));
@@ -156,7 +163,9 @@ pub fn step(run: &Run, arrivals: &[u32]) -> (Run, Answer) {
     let ran = if let Some(i) = handlers.iter().position(|h| h.owed > 0) {
         Ran::Handler(i as u64)
     } else {
-        let mut owed: Vec<(u128, usize)> = tasks.iter().enumerate().filter(|(_, t)| t.owed > 0).map(|(i, t)| (t.due, i)).collect();
+        // The earliest deadline, or the shortest period; the lowest row on a tie.
+        let key = |t: &Row| if by == By::Deadline { t.due } else { t.period };
+        let mut owed: Vec<(u128, usize)> = tasks.iter().enumerate().filter(|(_, t)| t.owed > 0).map(|(i, t)| (key(t), i)).collect();
         owed.sort();
         owed.first().map_or(Ran::Idle, |&(_, i)| Ran::Task(i as u64))
     };

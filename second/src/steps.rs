@@ -3,7 +3,7 @@
 
 use crate::proved::{Answered, Laid};
 use crate::random::Random;
-use crate::scheduler::{self, Answer, Ran, Run};
+use crate::scheduler::{self, Answer, By, Ran, Run};
 use crate::tables::{self, Table};
 
 fn late(number: u64) -> Option<u64> {
@@ -40,9 +40,10 @@ fn proved_fresh(table: &Table) -> (Run, u64) {
 }
 
 /// The proved step.
-fn proved_step(run: &Run, arrivals: &[u32]) -> (Run, Answer) {
+fn proved_step(run: &Run, arrivals: &[u32], by: By) -> (Run, Answer) {
     let figures = [run.task_count, run.handler_count, run.clock, run.over as u64, run.late.map_or(0, |i| i + 1), 0, 0, 0, 0];
-    let question = Laid::question(6).words(&run.tasks).words(&run.handlers).longs(&run.next).longs(&run.due).longs(&run.owed);
+    let number = if by == By::Deadline { 6 } else { 8 };
+    let question = Laid::question(number).words(&run.tasks).words(&run.handlers).longs(&run.next).longs(&run.due).longs(&run.owed);
     let (after, g) = laid(question.longs(&figures).list(arrivals).answer(RUN));
     let ran = match g[6] {
         1 => Ran::Handler(g[7]),
@@ -57,6 +58,8 @@ fn proved_step(run: &Run, arrivals: &[u32]) -> (Run, Answer) {
 pub struct Counts {
     pub runs: u64,
     pub ticks: u64,
+    /// Of these, steps by priority.
+    pub ranked: u64,
     pub late: u64,
     pub refused: [u64; 12],
 }
@@ -64,12 +67,13 @@ pub struct Counts {
 /// A difference: what it is, and the run and arrivals that show it.
 pub type Difference = String;
 
-fn same_step(run: &Run, arrivals: &[u32], counts: &mut Counts) -> Result<(Run, Answer), Difference> {
-    let (ours, theirs) = (proved_step(run, arrivals), scheduler::step(run, arrivals));
+fn same_step(run: &Run, arrivals: &[u32], by: By, counts: &mut Counts) -> Result<(Run, Answer), Difference> {
+    let (ours, theirs) = (proved_step(run, arrivals, by), scheduler::step(run, arrivals, by));
     if ours != theirs {
-        return Err(format!("step of {run:?} with {arrivals:?}: proved {ours:?}, second program {theirs:?}"));
+        return Err(format!("step by {by:?} of {run:?} with {arrivals:?}: proved {ours:?}, second program {theirs:?}"));
     }
     counts.ticks += 1;
+    counts.ranked += (by == By::Priority) as u64;
     match theirs.1 {
         Answer::Refused(k) => counts.refused[k as usize] += 1,
         Answer::Ticked(_, Some(_)) => counts.late += 1,
@@ -104,7 +108,7 @@ fn arrivals(random: &mut Random, run: &Run, eager: bool) -> Vec<u32> {
 }
 
 /// A whole run of a table from fresh.
-pub fn whole(random: &mut Random, table: &Table, ticks: u64, counts: &mut Counts) -> Result<(), Difference> {
+pub fn whole(random: &mut Random, table: &Table, ticks: u64, by: By, counts: &mut Counts) -> Result<(), Difference> {
     let (mut run, code) = proved_fresh(table);
     let refusal = crate::model::table_refusal(&table.tasks, &table.handlers);
     if code != refusal as u64 {
@@ -121,7 +125,7 @@ pub fn whole(random: &mut Random, table: &Table, ticks: u64, counts: &mut Counts
     let eager = random.chance(2);
     for _ in 0..ticks {
         let list = arrivals(random, &run, eager);
-        let (after, _) = same_step(&run, &list, counts)?;
+        let (after, _) = same_step(&run, &list, by, counts)?;
         run = after;
         if run.over && random.chance(2) {
             break;
@@ -134,10 +138,11 @@ pub fn whole(random: &mut Random, table: &Table, ticks: u64, counts: &mut Counts
 pub fn made_elsewhere(random: &mut Random, counts: &mut Counts) -> Result<(), Difference> {
     let table = tables::small(random);
     let mut run = scheduler::fresh(&table.tasks, &table.handlers);
+    let by = random.one_of(&[By::Deadline, By::Priority]);
     for _ in 0..random.below(12) {
         let eager = random.chance(2);
         let list = arrivals(random, &run, eager);
-        run = scheduler::step(&run, &list).0;
+        run = scheduler::step(&run, &list, by).0;
     }
     let any = [0, 1, 2, 3, 10, 63, 64, 65, 79, 80, 81, 1_000_000, 999_999_999, 1_000_000_000, 1_000_000_001, u64::MAX];
     for _ in 0..random.from_to(0, 2) {
@@ -161,5 +166,5 @@ pub fn made_elsewhere(random: &mut Random, counts: &mut Counts) -> Result<(), Di
     }
     let rows = (run.task_count.min(80) + run.handler_count.min(80)) as usize;
     let list: Vec<u32> = (0..rows).map(|_| random.one_of(&[0, 0, 1])).collect();
-    same_step(&run, &list, counts).map(|_| ())
+    same_step(&run, &list, by, counts).map(|_| ())
 }

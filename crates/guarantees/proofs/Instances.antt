@@ -12,3 +12,5 @@ pub mod Answers
 pub mod Schedules
 -- what a step accepts, where its tick goes, runs in bounds, one answer
 pub mod Rules
+-- fixed priorities: a table that is on time, and one that is late though it fits under the earliest deadline
+pub mod Priority

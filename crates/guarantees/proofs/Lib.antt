@@ -7,7 +7,9 @@ pub mod Synchronous
 pub mod Named
 pub mod NeverLate
 pub mod LegalOnTime
+pub mod FirstLate
 pub mod LateExactly
 pub mod NoScheduler
 pub mod OurRun
+pub mod Priority
 pub mod Instances

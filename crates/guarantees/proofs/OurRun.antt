@@ -34,23 +34,23 @@ module _ (t h : List ℕ) (e : tableRefusal t h ≡ 0) where
   -- Not over now: never over before.
   going-so-far : (n : ℕ) → syncRun t h n .over ≡ false → (m : ℕ) → m ≤ n → syncRun t h m .over ≡ false
   going-so-far zero going m within = let start : 0 ≡ m = omega arith in subst (λ (k : ℕ). syncRun t h k .over ≡ false) start going
-  going-so-far (suc n) going m within = go (eq-or-lt-of-le within) (going-so-far n (going-before t h e n going) m)
+  going-so-far (suc n) going m within = go (eq-or-lt-of-le within) (going-so-far n (going-before dueOf t h e n going) m)
     where
       go : (m ≡ suc n) ⊎ (m < suc n) → (m ≤ n → syncRun t h m .over ≡ false) → syncRun t h m .over ≡ false
       go (inl same) before = subst (λ (k : ℕ). syncRun t h k .over ≡ false) (sym same) going
       go (inr less) before = before (omega arith)
 
   module _ (n : ℕ) (soon : n ≤ ticksMost) (going : syncRun t h n .over ≡ false) where
-    synced-at : (m : ℕ) → m ≤ n → Synced t h e m
-    synced-at m within = synced t h e m (omega arith) (λ k l. going-so-far n going k (omega arith))
+    synced-at : (m : ℕ) → m ≤ n → Synced dueOf t h e m
+    synced-at m within = synced dueOf t h e m (omega arith) (λ k l. going-so-far n going k (omega arith))
 
     -- So the machine is on time at each clock so far.
     machine-on-time : (m : ℕ) → m ≤ n → OnTime m (sync m ts hs .tasks)
     machine-on-time zero within = unfold syncBy in on-time 0 (idle ts) (idle-before 1 ts)
     machine-on-time (suc m) within =
-        let s : Synced t h e m = synced-at m (omega arith) in
-        let a = synced-accepted t h e m s (omega arith) (going-so-far n going m (omega arith)) in
-        let same = sync-next t h e m in
+        let s : Synced dueOf t h e m = synced-at m (omega arith) in
+        let a = synced-accepted dueOf t h e m s (omega arith) (going-so-far n going m (omega arith)) in
+        let same = sync-next dueOf t h e m in
         let now : syncRun t h (suc m) .over ≡ false = going-so-far n going (suc m) within in
         let on = going-on-time dueOf (syncRun t h m) (beatOf t h m) (s .well-made) a (ap (λ (r : Run). r .over) (sym same) ∙ now) in
         let run-on : OnTime (syncRun t h (suc m) .clock) (viewOf (syncRun t h (suc m)) .tasks) = subst (λ (r : Run). OnTime (r .clock) (viewOf r .tasks)) (sym same) on in

@@ -1,4 +1,4 @@
--- The synchronous run of a table, as `fresh` and `step` make it, is the machine's synchronous run for as long as it is not over.
+-- The synchronous run of a table, as `fresh` and steps by any key make it, is the machine's synchronous run for as long as it is not over.
 --   Synced n   the run after n ticks of synchronous arrivals is well made, has the table's rows, and is seen as the machine's
 use mathlib.Core.Bool.{false}
 use mathlib.Core.List.{List}
@@ -13,15 +13,15 @@ use Rattle.demand.specs.Refusals.{tableRefusal}
 use Rattle.demand.specs.Rows.{Row, tasksOf, handlersOf}
 use Rattle.guarantees.specs.LegalArrivals.{Accepted}
 use Rattle.guarantees.specs.Patterns.{patternTo}
-use Rattle.guarantees.specs.Synchronous.{beatOf, syncRun}
-use Rattle.machine.specs.Live.{dueOf}
-use Rattle.machine.specs.Machine.{State, Arrivals, serveBy, tick}
+use Rattle.guarantees.specs.Synchronous.{beatOf, syncRunBy}
+use Rattle.machine.specs.Live.{Live}
+use Rattle.machine.specs.Machine.{State, Arrivals, serveBy, tickBy}
 use Rattle.scheduler.specs.Reached.{offeredBy, WellMade}
 use Rattle.scheduler.specs.Runs.{rowCount, taskRows, handlerRows}
 use Rattle.machine.specs.Schedules.{beats}
-use Rattle.machine.specs.Machine.{beatsAt, syncBy, sync}
+use Rattle.machine.specs.Machine.{beatsAt, syncBy}
 use Rattle.machine.specs.Inside.Legal.{LegalTick}
-use Rattle.scheduler.specs.Steps.{stepOf}
+use Rattle.scheduler.specs.Steps.{stepBy}
 use Rattle.guarantees.specs.View.{viewOf, offerOf}
 use Rattle.scheduler.specs.declared.Run.{Run}
 use Rattle.scheduler.specs.declared.Stepped.{Stepped}
@@ -38,7 +38,7 @@ use Rattle.guarantees.proofs.View.Rows.{task-rows, handler-rows}
 use Rattle.guarantees.proofs.View.Arrives.{tick-accepted}
 use Rattle.guarantees.proofs.Patterns.{run-next}
 
-module _ (t h : List ℕ) (e : tableRefusal t h ≡ 0) where
+module _ (key : Live → ℕ) (t h : List ℕ) (e : tableRefusal t h ≡ 0) where
   abbrev ts : List Row
   ts = tasksOf t
 
@@ -46,14 +46,14 @@ module _ (t h : List ℕ) (e : tableRefusal t h ≡ 0) where
   hs = handlersOf h
 
   -- Tick n is a step with the arrivals of tick n.
-  pub sync-next : (n : ℕ) → syncRun t h (suc n) ≡ stepOf (syncRun t h n) (beatOf t h n) .run
-  sync-next n = run-next dueOf t h (beatOf t h) n
+  pub sync-next : (n : ℕ) → syncRunBy key t h (suc n) ≡ stepBy key (syncRunBy key t h n) (beatOf t h n) .run
+  sync-next n = run-next key t h (beatOf t h) n
 
   pub record Synced (n : ℕ) : Type 0 where
-    pub well-made : WellMade (syncRun t h n)
-    pub tasks-are : taskRows (syncRun t h n) ≡ tasksOf t
-    pub handlers-are : handlerRows (syncRun t h n) ≡ handlersOf h
-    pub view : viewOf (syncRun t h n) ≡ sync n (tasksOf t) (handlersOf h)
+    pub well-made : WellMade (syncRunBy key t h n)
+    pub tasks-are : taskRows (syncRunBy key t h n) ≡ tasksOf t
+    pub handlers-are : handlerRows (syncRunBy key t h n) ≡ handlersOf h
+    pub view : viewOf (syncRunBy key t h n) ≡ syncBy (serveBy key) n (tasksOf t) (handlersOf h)
 
   -- At the start.
   pub synced-fresh : Synced 0
@@ -69,10 +69,10 @@ module _ (t h : List ℕ) (e : tableRefusal t h ≡ 0) where
 
   module _ (n : ℕ) (s : Synced n) where
     abbrev run : Run
-    run = syncRun t h n
+    run = syncRunBy key t h n
 
-    pub synced-clock : syncRun t h n .clock ≡ n
-    synced-clock = ap (λ (v : State). v .clock) (s .view) ∙ sync-clock (serveBy dueOf) ts hs n
+    pub synced-clock : syncRunBy key t h n .clock ≡ n
+    synced-clock = ap (λ (v : State). v .clock) (s .view) ∙ sync-clock (serveBy key) ts hs n
 
     -- The arrivals of tick n have a number for each row, ..
     task-count : length (beats n ts) ≡ run .«task_count»
@@ -97,34 +97,34 @@ module _ (t h : List ℕ) (e : tableRefusal t h ≡ 0) where
     legal : LegalTick (offerOf run (beatOf t h n)) (viewOf run)
     legal =
         subst (λ (v : State). LegalTick (offerOf run (beatOf t h n)) v) (sym (s .view))
-        (subst (λ (a : Arrivals). LegalTick a (sync n ts hs)) (sym offer)
-        (sync-legal (serveBy dueOf) (serve-by-ran dueOf) ts hs (valid-positive ts (tasks-valid t h e)) (handlers-positive t h e) n))
+        (subst (λ (a : Arrivals). LegalTick a (syncBy (serveBy key) n ts hs)) (sym offer)
+        (sync-legal (serveBy key) (serve-by-ran key) ts hs (valid-positive ts (tasks-valid t h e)) (handlers-positive t h e) n))
 
-    pub synced-accepted : n < ticksMost → syncRun t h n .over ≡ false → Accepted (syncRun t h n) (beatOf t h n)
+    pub synced-accepted : n < ticksMost → syncRunBy key t h n .over ≡ false → Accepted (syncRunBy key t h n) (beatOf t h n)
     synced-accepted soon going = tick-accepted run (beatOf t h n) (s .well-made) going (omega (arith, synced-clock)) count legal
 
     -- The tick is the machine's.
-    pub synced-next : n < ticksMost → syncRun t h n .over ≡ false → Synced (suc n)
+    pub synced-next : n < ticksMost → syncRunBy key t h n .over ≡ false → Synced (suc n)
     unfolding syncBy
     synced-next soon going =
         let a = synced-accepted soon going in
         let same = sync-next n in
         record {
-          well-made = subst WellMade (sym same) (step-in-bounds dueOf run (beatOf t h n) (s .well-made));
-          tasks-are = ap taskRows same ∙ step-tasks dueOf run (beatOf t h n) ∙ s .tasks-are;
-          handlers-are = ap handlerRows same ∙ step-handlers dueOf run (beatOf t h n) ∙ s .handlers-are;
-          view = ap viewOf same ∙ step-view dueOf run (beatOf t h n) (s .well-made) a ∙ ap₂ (λ (x : Arrivals) (v : State). tick x v) offer (s .view);
+          well-made = subst WellMade (sym same) (step-in-bounds key run (beatOf t h n) (s .well-made));
+          tasks-are = ap taskRows same ∙ step-tasks key run (beatOf t h n) ∙ s .tasks-are;
+          handlers-are = ap handlerRows same ∙ step-handlers key run (beatOf t h n) ∙ s .handlers-are;
+          view = ap viewOf same ∙ step-view key run (beatOf t h n) (s .well-made) a ∙ ap₂ (λ (x : Arrivals) (v : State). tickBy (serveBy key) x v) offer (s .view);
         }
 
   -- Once over, always over.
-  pub going-before : (n : ℕ) → syncRun t h (suc n) .over ≡ false → syncRun t h n .over ≡ false
-  going-before n going = go (outcome dueOf (syncRun t h n) (beatOf t h n))
+  pub going-before : (n : ℕ) → syncRunBy key t h (suc n) .over ≡ false → syncRunBy key t h n .over ≡ false
+  going-before n going = go (outcome key (syncRunBy key t h n) (beatOf t h n))
     where
-      go : Outcome dueOf (syncRun t h n) (beatOf t h n) → syncRun t h n .over ≡ false
+      go : Outcome key (syncRunBy key t h n) (beatOf t h n) → syncRunBy key t h n .over ≡ false
       go (stays k same) = ap (λ (r : Run). r .over) (sym (sync-next n ∙ ap (λ (x : Stepped). x .run) same)) ∙ going
-      go (goes a e) = passed (syncRun t h n) (beatOf t h n) a .going
+      go (goes a e) = passed (syncRunBy key t h n) (beatOf t h n) a .going
 
   -- So the run is the machine's up to the first clock at which it is over.
-  pub synced : (n : ℕ) → n ≤ ticksMost → ((m : ℕ) → m < n → syncRun t h m .over ≡ false) → Synced n
+  pub synced : (n : ℕ) → n ≤ ticksMost → ((m : ℕ) → m < n → syncRunBy key t h m .over ≡ false) → Synced n
   synced zero soon going = synced-fresh
   synced (suc n) soon going = synced-next n (synced n (omega arith) (λ m l. going m (omega arith))) (omega arith) (going n (omega arith))

@@ -1,5 +1,5 @@
--- Contents. What a sheet promises of the scheduler (00, demand 3), said of the very definitions that `verdict`, `Run::fresh` and
--- `step` promise.
+-- Contents. What a sheet promises of the scheduler (00, demand 3), said of the very definitions that `verdict`, `responses`,
+-- `Run::fresh` and `step` promise.
 -- accepted arrivals come no sooner than a period after the last and bring at most the cost, and the reverse
 pub mod LegalArrivals
 -- so two accepted arrivals of a row are at least its period apart, whatever is offered between them
@@ -20,3 +20,5 @@ pub mod NoScheduler
 pub mod View
 -- the synchronous run of `fresh` and `step` is our machine's, and such a schedule, for as long as it is not over
 pub mod OurRun
+-- fixed priorities: on time where every task has a response, late where one has none, and then no table that fits here misses
+pub mod Priority

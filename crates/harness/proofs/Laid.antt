@@ -9,7 +9,7 @@ use Prim.Native.Nat.{ℕ, zero, suc, _≤_, _<_}
 use Rattle.demand.specs.Limits.{tasksMost}
 use Rattle.demand.specs.Refusals.{tableRefusal}
 use Rattle.demand.specs.Tests.{pick}
-use Rattle.machine.specs.Live.{dueOf}
+use Rattle.machine.specs.Live.{Live}
 use Rattle.scheduler.specs.Promise.{figures, startFigures, FreshSays, StepSays}
 use Rattle.scheduler.specs.Scans.{firstOf}
 use Rattle.scheduler.specs.Start.{noRun, freshRun}
@@ -62,42 +62,43 @@ same-late : {a b : Ran} {x y : Late} → Ticked a x ≡ Ticked b y → x ≡ y
 same-late e = cc
 
 -- Beside a refusal stands the run that was given.
-refused-same : (r : Run) (ws : List ℕ) (s : Stepped) → StepSays dueOf r ws s → (k : ℕ) → s .answer ≡ Refused k → s .run ≡ r
+refused-same : (key : Live → ℕ) (r : Run) (ws : List ℕ) (s : Stepped) → StepSays key r ws s → (k : ℕ) → s .answer ≡ Refused k → s .run ≡ r
 unfolding tickedBy
-refused-same r ws s says k is = go (outcome dueOf r ws)
+refused-same key r ws s says k is = go (outcome key r ws)
   where
-    go : Outcome dueOf r ws → s .run ≡ r
+    go : Outcome key r ws → s .run ≡ r
     go (stays j e) = ap (λ (x : Stepped). x .run) (says .answer ∙ e)
     go (goes none e) =
-        let same : tickedBy dueOf r ws .answer ≡ Refused k = sym (ap (λ (x : Stepped). x .answer) (says .answer ∙ e)) ∙ is in
+        let same : tickedBy key r ws .answer ≡ Refused k = sym (ap (λ (x : Stepped). x .answer) (says .answer ∙ e)) ∙ is in
         absurd (let z : _≡_ {A = ℕ} 0 1 = cc in omega arith)
 
 -- A tick names no late row above the 64th, in its run and in its answer.
-pub ticked-late : (r : Run) (ws : List ℕ) (s : Stepped) → StepSays dueOf r ws s → (ran : Ran) (now : Late) → s .answer ≡ Ticked ran now
+pub ticked-late : (key : Live → ℕ) (r : Run) (ws : List ℕ) (s : Stepped) → StepSays key r ws s → (ran : Ran) (now : Late) → s .answer ≡ Ticked ran now
     → (lateNumber (s .run .late) ≤ tasksMost) × (lateNumber now ≤ tasksMost)
 unfolding tickedBy
-ticked-late r ws s says ran now is = go (outcome dueOf r ws)
+ticked-late key r ws s says ran now is = go (outcome key r ws)
   where
-    go : Outcome dueOf r ws → (lateNumber (s .run .late) ≤ tasksMost) × (lateNumber now ≤ tasksMost)
+    go : Outcome key r ws → (lateNumber (s .run .late) ≤ tasksMost) × (lateNumber now ≤ tasksMost)
     go (stays k e) =
         let same : Refused k ≡ Ticked ran now = sym (ap (λ (x : Stepped). x .answer) (says .answer ∙ e)) ∙ is in
         absurd (let z : _≡_ {A = ℕ} 0 1 = cc in omega arith)
     go (goes none e) =
         let few : r .«task_count» ≤ tasksMost = clauses-fit r (clauses r (passed r ws none .in-bounds)) .tasks in
-        let own : lateNumber (tickedBy dueOf r ws .run .late) ≤ tasksMost = row-most _ _ _ (r .«task_count») tasksMost few in
-        let told : tickedBy dueOf r ws .run .late ≡ now = same-late (sym (ap (λ (x : Stepped). x .answer) (says .answer ∙ e)) ∙ is) in
+        let own : lateNumber (tickedBy key r ws .run .late) ≤ tasksMost = row-most _ _ _ (r .«task_count») tasksMost few in
+        let told : tickedBy key r ws .run .late ≡ now = same-late (sym (ap (λ (x : Stepped). x .answer) (says .answer ∙ e)) ∙ is) in
         (subst (λ (x : Stepped). lateNumber (x .run .late) ≤ tasksMost) (sym (says .answer ∙ e)) own, subst (λ (l : Late). lateNumber l ≤ tasksMost) told own)
 
 -- ---- what a step leaves
 
 -- The step of the run that lent arrays tell.
-module _ (t h next due owed fs ws : List ℕ) (given : Run) (told : given ≡ runIn t h next due owed fs) (s : Stepped) (says : StepSays dueOf given ws s) where
-  says-in : StepSays dueOf (runIn t h next due owed fs) ws s
-  says-in = subst (λ (r : Run). StepSays dueOf r ws s) told says
+module _ (key : Live → ℕ) (t h next due owed fs ws : List ℕ) (given : Run) (told : given ≡ runIn t h next due owed fs) (s : Stepped)
+    (says : StepSays key given ws s) where
+  says-in : StepSays key (runIn t h next due owed fs) ws s
+  says-in = subst (λ (r : Run). StepSays key r ws s) told says
 
   -- A tick lays the next run.
   pub laid-ticked : (ran : Ran) (now : Late) → s .answer ≡ Ticked ran now → (left : List ℕ) → left ≡ layout (s .run) 0 ran now
-      → StepLaid (runIn t h next due owed fs) fs ws (s .run .next) (s .run .due) (s .run .owed) left
+      → StepLaid key (runIn t h next due owed fs) fs ws (s .run .next) (s .run .due) (s .run .owed) left
   laid-ticked ran now is left e = record {
     stepped = s;
     says = says-in;
@@ -109,9 +110,9 @@ module _ (t h next due owed fs ws : List ℕ) (given : Run) (told : given ≡ ru
 
   -- A refusal leaves all that the run had.
   pub laid-refused : (k : ℕ) → s .answer ≡ Refused k → (left : List ℕ) → left ≡ refusedLayout fs k
-      → StepLaid (runIn t h next due owed fs) fs ws next due owed left
+      → StepLaid key (runIn t h next due owed fs) fs ws next due owed left
   laid-refused k is left e =
-      let same : s .run ≡ runIn t h next due owed fs = refused-same given ws s says k is ∙ told in
+      let same : s .run ≡ runIn t h next due owed fs = refused-same key given ws s says k is ∙ told in
       record {
         stepped = s;
         says = says-in;
@@ -135,8 +136,8 @@ fresh-laid-unique tasks handlers t h next due owed fs t' h' next' due' owed' fs'
     )
 
 pub step-laid-unique : StepLaidUnique
-step-laid-unique r fs ws next due owed left next' due' owed' left' p q =
-    let same : p .stepped ≡ q .stepped = step-unique dueOf r ws (p .stepped) (q .stepped) (p .says) (q .says) in (
+step-laid-unique key r fs ws next due owed left next' due' owed' left' p q =
+    let same : p .stepped ≡ q .stepped = step-unique key r ws (p .stepped) (q .stepped) (p .says) (q .says) in (
       p .next-laid ∙ ap (λ (s : Stepped). s .run .next) same ∙ sym (q .next-laid),
       p .due-laid ∙ ap (λ (s : Stepped). s .run .due) same ∙ sym (q .due-laid),
       p .owed-laid ∙ ap (λ (s : Stepped). s .run .owed) same ∙ sym (q .owed-laid),
@@ -145,11 +146,11 @@ step-laid-unique r fs ws next due owed left next' due' owed' left' p q =
 
 -- A refused step leaves all numbers of the run as they were, be they in bounds or not.
 pub refused-keeps : RefusedKeeps
-refused-keeps t h next due owed fs ws next' due' owed' fs' laid some =
+refused-keeps key t h next due owed fs ws next' due' owed' fs' laid some =
     let r : Run = runIn t h next due owed fs in
     let k : ℕ = stepRefusal (runIn t h next due owed fs) ws in
     let same : laid .stepped .run ≡ r = laid .says .same some in
-    let is : laid .stepped .answer ≡ Refused k = ap (λ (x : Stepped). x .answer) (laid .says .answer ∙ step-refused dueOf r ws k refl (λ none. omega arith)) in
+    let is : laid .stepped .answer ≡ Refused k = ap (λ (x : Stepped). x .answer) (laid .says .answer ∙ step-refused key r ws k refl (λ none. omega arith)) in
     record {
       next-kept = laid .next-laid ∙ ap (λ (x : Run). x .next) same;
       due-kept = laid .due-laid ∙ ap (λ (x : Run). x .due) same;

@@ -8,7 +8,8 @@
 --   numbersOf g            == the four numbers of the figures g of an answer; FiguresLaid: those are what is laid out
 --   runIn t h next due owed fs   == the run that lent arrays tell
 --   leftBy fs s            == the figures after a step: those of a refused one keep the run's five as they were
---   FreshLaid, StepLaid    what a call leaves, of an answer that the promise of `fresh` or `step` allows
+--   keyBy ranked           == the key by which a step chooses: the period where it is by priority, else the deadline
+--   FreshLaid, StepLaid    what a call leaves, of an answer that the promise of `fresh` or of a step by this key allows
 --   FreshLaidUnique, StepLaidUnique   and so nothing else
 --   RefusedKeeps           a refused step leaves the numbers of the run exactly as they were
 use mathlib.Core.Bool.{Bool, true, false, not}
@@ -18,7 +19,7 @@ use Prim.Native.Nat.{ℕ, _+_, _-_, _<_}
 use lib.Dec.{eqb}
 use lib.ListN.{getD}
 use Rattle.demand.specs.Tests.{pick}
-use Rattle.machine.specs.Live.{dueOf}
+use Rattle.machine.specs.Live.{Live, dueOf, periodOf}
 use Rattle.scheduler.specs.Promise.{Who, nobody, handler, task, Figures, figures, rowRan, startFigures, FreshSays, StepSays}
 use Rattle.scheduler.specs.Runs.{runOf}
 use Rattle.scheduler.specs.Steps.{stepRefusal}
@@ -114,9 +115,13 @@ pub record FreshLaid (tasks handlers : List ℕ) (t h next due owed fs : List �
   pub owed-laid : owed ≡ fresh .run .owed
   pub figures-laid : fs ≡ runNumbers (fresh .run) ++ refusedNumbers (startFigures (fresh .answer))
 
-pub record StepLaid (r : Run) (fs ws : List ℕ) (next' due' owed' fs' : List ℕ) : Type 0 where
+abbrev pub keyBy : Bool → Live → ℕ
+keyBy true x = periodOf x
+keyBy false x = dueOf x
+
+pub record StepLaid (key : Live → ℕ) (r : Run) (fs ws : List ℕ) (next' due' owed' fs' : List ℕ) : Type 0 where
   pub stepped : Stepped
-  pub says : StepSays dueOf r ws stepped
+  pub says : StepSays key r ws stepped
   pub next-laid : next' ≡ stepped .run .next
   pub due-laid : due' ≡ stepped .run .due
   pub owed-laid : owed' ≡ stepped .run .owed
@@ -132,8 +137,8 @@ FreshLaidUnique =
 
 abbrev pub StepLaidUnique : Type 0
 StepLaidUnique =
-    (r : Run) (fs ws next due owed left next' due' owed' left' : List ℕ)
-    → StepLaid r fs ws next due owed left → StepLaid r fs ws next' due' owed' left'
+    (key : Live → ℕ) (r : Run) (fs ws next due owed left next' due' owed' left' : List ℕ)
+    → StepLaid key r fs ws next due owed left → StepLaid key r fs ws next' due' owed' left'
     → (next ≡ next') × (due ≡ due') × (owed ≡ owed') × (left ≡ left')
 
 pub record Kept (next due owed fs next' due' owed' fs' : List ℕ) (k : ℕ) : Type 0 where
@@ -144,6 +149,6 @@ pub record Kept (next due owed fs next' due' owed' fs' : List ℕ) (k : ℕ) : T
 
 abbrev pub RefusedKeeps : Type 0
 RefusedKeeps =
-    (t h next due owed fs ws next' due' owed' fs' : List ℕ)
-    → StepLaid (runIn t h next due owed fs) fs ws next' due' owed' fs' → 0 < stepRefusal (runIn t h next due owed fs) ws
+    (key : Live → ℕ) (t h next due owed fs ws next' due' owed' fs' : List ℕ)
+    → StepLaid key (runIn t h next due owed fs) fs ws next' due' owed' fs' → 0 < stepRefusal (runIn t h next due owed fs) ws
     → Kept next due owed fs next' due' owed' fs' (stepRefusal (runIn t h next due owed fs) ws)

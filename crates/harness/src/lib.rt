@@ -5,8 +5,9 @@ mod numbers;
 
 ghost use mathlib.Core.Path.{_≡_};
 ghost use lib.ListN.{replicate};
-ghost use Rattle.harness.specs.Numbers.{runIn, FreshLaid, StepLaid};
-ghost use Rattle.machine.specs.Live.{dueOf};
+ghost use Rattle.harness.specs.Numbers.{runIn, keyBy, FreshLaid, StepLaid};
+ghost use Rattle.machine.specs.Live.{dueOf, periodOf};
+ghost use Rattle.scheduler.specs.Promise.{StepSays};
 ghost use Rattle.scheduler.specs.Books.{busyBy};
 ghost use Rattle.scheduler.specs.Start.{freshOf};
 ghost use Rattle.scheduler.specs.Steps.{stepOf};
@@ -16,6 +17,7 @@ use scheduler::Answer;
 use scheduler::Late;
 use scheduler::Ran;
 use scheduler::Run;
+use scheduler::Stepped;
 use scheduler::sizes::HANDLER_NUMBERS;
 use scheduler::sizes::PLACES;
 use scheduler::sizes::TASK_NUMBERS;
@@ -62,12 +64,59 @@ pub extern "C" fn harness_step(
     figures: &mut [u64; FIGURES],
     arrivals: &[u32],
 )
-    ensures { λ _. ⌜ StepLaid (runIn (now (t .entry)) (now (h .entry)) (now (next .entry)) (now (due .entry)) (now (owed .entry))
+    ensures { λ _. ⌜ StepLaid dueOf (runIn (now (t .entry)) (now (h .entry)) (now (next .entry)) (now (due .entry)) (now (owed .entry))
         (now (figures .entry))) (now (figures .entry)) (now (arrivals .entry))
         (now (next .exit)) (now (due .exit)) (now (owed .exit)) (now (figures .exit)) ⌝ }
 {
+    lay(false, t, h, next, due, owed, figures, arrivals);
+}
+
+// The same by fixed priority.
+#[no_mangle]
+pub extern "C" fn harness_step_by_priority(
+    t: &[u32; TASK_NUMBERS],
+    h: &[u32; HANDLER_NUMBERS],
+    next: &mut [u64; PLACES],
+    due: &mut [u64; TASKS_MOST],
+    owed: &mut [u64; PLACES],
+    figures: &mut [u64; FIGURES],
+    arrivals: &[u32],
+)
+    ensures { λ _. ⌜ StepLaid periodOf (runIn (now (t .entry)) (now (h .entry)) (now (next .entry)) (now (due .entry)) (now (owed .entry))
+        (now (figures .entry))) (now (figures .entry)) (now (arrivals .entry))
+        (now (next .exit)) (now (due .exit)) (now (owed .exit)) (now (figures .exit)) ⌝ }
+{
+    lay(true, t, h, next, due, owed, figures, arrivals);
+}
+
+// One step by either.
+fn stepped_by(ranked: bool, run: Run, arrivals: &[u32]) -> Stepped
+    ensures { λ r. ⌜ StepSays (keyBy ranked) run (now (arrivals .entry)) r ⌝ }
+{
+    if ranked {
+        run.step_by_priority(arrivals)
+    } else {
+        run.step(arrivals)
+    }
+}
+
+// A step of the run in the lent arrays, laid there.
+fn lay(
+    ranked: bool,
+    t: &[u32; TASK_NUMBERS],
+    h: &[u32; HANDLER_NUMBERS],
+    next: &mut [u64; PLACES],
+    due: &mut [u64; TASKS_MOST],
+    owed: &mut [u64; PLACES],
+    figures: &mut [u64; FIGURES],
+    arrivals: &[u32],
+)
+    ensures { λ _. ⌜ StepLaid (keyBy ranked) (runIn (now (t .entry)) (now (h .entry)) (now (next .entry)) (now (due .entry))
+        (now (owed .entry)) (now (figures .entry))) (now (figures .entry)) (now (arrivals .entry))
+        (now (next .exit)) (now (due .exit)) (now (owed .exit)) (now (figures .exit)) ⌝ }
+{
     let run = numbers::run_in(t, h, next, due, owed, figures);
-    let stepped = run.step(arrivals);
+    let stepped = stepped_by(ranked, run, arrivals);
     let after = stepped.run;
     let answer = stepped.answer;
     match answer {

@@ -11,5 +11,6 @@ pub mod Sync
 pub mod Flat
 pub mod FlatArrive
 pub mod FlatFacts
+pub mod Priority
 pub mod Lateness
 pub mod Examples

@@ -1,6 +1,7 @@
 -- Rows at work (01, "One tick of the scheduler"): what every schedule has to do with, ours and any other.
 --   Live                   == a row at work: its next legal arrival, the deadline of its last job and the work that it is owed
 --   dueOf x                == the deadline of the last job of task x
+--   periodOf x             == the period of row x, by which fixed priorities go (02, M-103)
 --   idle rs                == rows at work that are owed nothing and may arrive at once
 --   arrive t w x           == row x after an arrival of w at tick t; arriveAll for each row its own number
 --   owedAll xs             == all work owed
@@ -19,6 +20,9 @@ pub record Live : Type 0 where
 
 abbrev pub dueOf : Live → ℕ
 dueOf x = x .due
+
+abbrev pub periodOf : Live → ℕ
+periodOf x = x .row .period
 
 unfoldable pub idle : List Row → List Live
 idle [] = []

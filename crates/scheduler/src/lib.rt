@@ -8,11 +8,13 @@ mod rows;
 pub mod sizes;
 mod tick;
 
-ghost use Rattle.machine.specs.Live.{dueOf};
+ghost use Rattle.machine.specs.Live.{dueOf, periodOf};
+ghost use Rattle.scheduler.specs.Inside.Keys.{keyOf};
 ghost use Rattle.scheduler.specs.Promise.{FreshSays, StepSays};
 use crate::sizes::HANDLER_NUMBERS;
 use crate::sizes::PLACES;
 use crate::sizes::TASK_NUMBERS;
+use crate::tick::Key;
 use demand::table;
 use demand::table::TASKS_MOST;
 
@@ -97,27 +99,41 @@ impl Run {
     pub fn step(self, arrivals: &[u32]) -> Stepped
         ensures { λ r. ⌜ StepSays dueOf self (now (arrivals .entry)) r ⌝ }
     {
-        let late = self.late;
-        let number = refusal::of_step(
-            &self.tasks,
-            &self.handlers,
-            &self.next,
-            &self.due,
-            &self.owed,
-            self.task_count,
-            self.handler_count,
-            self.clock,
-            self.over,
-            late,
-            arrivals,
-        );
-        if number == 0 {
-            tick::ticked(self, arrivals)
-        } else {
-            Stepped {
-                run: self,
-                answer: Answer::Refused { number },
-            }
+        step_by(self, Key::Deadline, arrivals)
+    }
+
+    // The same by fixed priority: of the tasks owed work the one with the shortest period runs, the lowest row on a tie.
+    pub fn step_by_priority(self, arrivals: &[u32]) -> Stepped
+        ensures { λ r. ⌜ StepSays periodOf self (now (arrivals .entry)) r ⌝ }
+    {
+        step_by(self, Key::Period, arrivals)
+    }
+}
+
+// A step where of the tasks owed work the one with the smallest key runs.
+fn step_by(run: Run, key: Key, arrivals: &[u32]) -> Stepped
+    ensures { λ r. ⌜ StepSays (keyOf key) run (now (arrivals .entry)) r ⌝ }
+{
+    let late = run.late;
+    let number = refusal::of_step(
+        &run.tasks,
+        &run.handlers,
+        &run.next,
+        &run.due,
+        &run.owed,
+        run.task_count,
+        run.handler_count,
+        run.clock,
+        run.over,
+        late,
+        arrivals,
+    );
+    if number == 0 {
+        tick::ticked(run, key, arrivals)
+    } else {
+        Stepped {
+            run,
+            answer: Answer::Refused { number },
         }
     }
 }

@@ -5,12 +5,14 @@ ghost use lib.ListN.{length};
 ghost use Rattle.demand.specs.Limits.{tasksMost};
 ghost use Rattle.demand.specs.Rows.{rowsOf, width, rowAt, rowOf};
 ghost use Rattle.scheduler.specs.Inside.Counted.{Fitting};
+ghost use Rattle.scheduler.specs.Inside.Keys.{periodsOf};
 ghost use Rattle.scheduler.specs.Runs.{rowOn};
 use crate::sizes::HANDLER_NUMBERS;
 use crate::sizes::TASK_NUMBERS;
 use demand::table;
 use demand::table::Kind;
 use demand::table::Row;
+use demand::table::TASKS_MOST;
 
 // How many numbers so many rows have.
 pub fn numbers(kind: Kind, count: usize) -> usize
@@ -45,4 +47,19 @@ pub fn row_at<'a>(
     } else {
         row_of(Kind::Handler, handlers, k - n)
     }
+}
+
+// The periods of the first n tasks, and zeros behind.
+pub fn periods(tasks: &[u32; TASK_NUMBERS], n: usize) -> [u64; TASKS_MOST]
+    requires { ⌜ n ≤ tasksMost ⌝ }
+    ensures { λ r. ⌜ r ≡ periodsOf (now (tasks .entry)) n ⌝ }
+{
+    let mut all = [0u64; TASKS_MOST];
+    let mut k = 0;
+    while k < n {
+        let row = row_of(Kind::Task, tasks, k);
+        all[k] = row.period;
+        k += 1;
+    }
+    all
 }

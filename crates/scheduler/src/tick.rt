@@ -2,8 +2,8 @@
 ghost use mathlib.Core.Path.{_≡_};
 ghost use Prim.Native.Nat.{_+_, _<_, _≤_};
 ghost use Rattle.demand.specs.Limits.{tasksMost, handlersMost, ticksMost};
-ghost use Rattle.machine.specs.Live.{dueOf};
 ghost use Rattle.scheduler.specs.Inside.Counted.{Payable};
+ghost use Rattle.scheduler.specs.Inside.Keys.{keyOf, keysOn};
 ghost use Rattle.scheduler.specs.Scans.{at};
 ghost use Rattle.scheduler.specs.Steps.{stepRefusal};
 ghost use Rattle.scheduler.specs.Tick.{better, earliest, goesTo, paid, lateRow, isTask, closed, tickedBy};
@@ -13,8 +13,16 @@ use crate::Ran;
 use crate::Run;
 use crate::Stepped;
 use crate::arrivals;
+use crate::rows;
 use crate::sizes::PLACES;
+use crate::sizes::TASK_NUMBERS;
 use demand::table::TASKS_MOST;
+
+// By which number tasks are chosen: the earliest deadline runs first, or the shortest period.
+pub enum Key {
+    Deadline,
+    Period,
+}
 
 // The task found so far, and its key.
 pub struct Best {
@@ -39,7 +47,7 @@ fn better(best: Best, k: usize, owed: u64, key: u64) -> Best
 }
 
 // Of the first n tasks, the one with the smallest key among those owed work, lowest row on a tie.
-fn earliest<'a>(keys: &'a [u64; TASKS_MOST], owed: &'a [u64; PLACES], n: usize) -> Best
+fn earliest(keys: &[u64; TASKS_MOST], owed: &[u64; PLACES], n: usize) -> Best
     requires { ⌜ n ≤ tasksMost ⌝ }
     ensures { λ r. ⌜ r ≡ earliest (at (now (keys .entry))) (now (owed .entry)) n ⌝ }
 {
@@ -59,7 +67,7 @@ fn earliest<'a>(keys: &'a [u64; TASKS_MOST], owed: &'a [u64; PLACES], n: usize) 
 }
 
 // To the first handler row that is owed work, else to a task, else to nobody.
-fn goes_to<'a>(keys: &'a [u64; TASKS_MOST], owed: &'a [u64; PLACES], n: usize, m: usize) -> Ran
+fn goes_to(keys: &[u64; TASKS_MOST], owed: &[u64; PLACES], n: usize, m: usize) -> Ran
     requires { ⌜ (n ≤ tasksMost) × (m ≤ handlersMost) ⌝ }
     ensures { λ r. ⌜ r ≡ goesTo (at (now (keys .entry))) (now (owed .entry)) n m ⌝ }
 {
@@ -76,6 +84,27 @@ fn goes_to<'a>(keys: &'a [u64; TASKS_MOST], owed: &'a [u64; PLACES], n: usize, m
         Ran::Task { row: best.row }
     } else {
         Ran::Idle
+    }
+}
+
+// The one to whom the tick goes by this key, of tasks with these deadlines.
+fn chosen(
+    key: Key,
+    due: &[u64; TASKS_MOST],
+    tasks: &[u32; TASK_NUMBERS],
+    owed: &[u64; PLACES],
+    n: usize,
+    m: usize,
+) -> Ran
+    requires { ⌜ (n ≤ tasksMost) × (m ≤ handlersMost) ⌝ }
+    ensures { λ r. ⌜ r ≡ goesTo (keysOn key (now (tasks .entry)) (now (due .entry))) (now (owed .entry)) n m ⌝ }
+{
+    match key {
+        Key::Deadline => goes_to(due, owed, n, m),
+        Key::Period => {
+            let periods = rows::periods(tasks, n);
+            goes_to(&periods, owed, n, m)
+        }
     }
 }
 
@@ -162,9 +191,9 @@ fn closed(
 }
 
 // An accepted step: arrivals, the tick, the clock, the late test.
-pub fn ticked(run: Run, arrivals: &[u32]) -> Stepped
+pub fn ticked(run: Run, key: Key, arrivals: &[u32]) -> Stepped
     requires { ⌜ stepRefusal run (now arrivals) ≡ 0 ⌝ }
-    ensures { λ r. ⌜ r ≡ tickedBy dueOf run (now (arrivals .entry)) ⌝ }
+    ensures { λ r. ⌜ r ≡ tickedBy (keyOf key) run (now (arrivals .entry)) ⌝ }
 {
     let n = run.task_count;
     let m = run.handler_count;
@@ -175,7 +204,7 @@ pub fn ticked(run: Run, arrivals: &[u32]) -> Stepped
     arrivals::move_next(&mut next, &run.tasks, &run.handlers, n, m, clock, arrivals);
     arrivals::move_due(&mut due, &run.tasks, &run.handlers, n, m, clock, arrivals);
     arrivals::add_work(&mut owed, arrivals);
-    let ran = goes_to(&due, &owed, n, m);
+    let ran = chosen(key, &due, &run.tasks, &owed, n, m);
     pay(&mut owed, n, ran);
     let late = late_row(&due, &owed, n, clock + 1);
     closed(run, next, due, owed, ran, is_task(late), late)

@@ -38,7 +38,7 @@ module _ (a x b y : ℕ) where
       go false false e f some = absurd (omega arith)
 
   -- .. so a period apart where a and b are, ..
-  twice-apart : (period m n : ℕ) → a + period ≤ b → m < n → 0 < twice a x b y m → 0 < twice a x b y n → m + period ≤ n
+  pub twice-apart : (period m n : ℕ) → a + period ≤ b → m < n → 0 < twice a x b y m → 0 < twice a x b y n → m + period ≤ n
   twice-apart period m n far l before now = go (twice-when m before) (twice-when n now)
     where
       go : (m ≡ a) ⊎ (m ≡ b) → (n ≡ a) ⊎ (n ≡ b) → m + period ≤ n
@@ -48,7 +48,7 @@ module _ (a x b y : ℕ) where
       go (inr p) (inr q) = absurd (omega arith)
 
   -- .. and never more than x or y.
-  twice-most : (cost n : ℕ) → x ≤ cost → y ≤ cost → twice a x b y n ≤ cost
+  pub twice-most : (cost n : ℕ) → x ≤ cost → y ≤ cost → twice a x b y n ≤ cost
   unfolding twice
   twice-most cost n p q = go (eqb n a) (eqb n b)
     where

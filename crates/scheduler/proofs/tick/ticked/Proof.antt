@@ -27,45 +27,44 @@ add-work-requires c κs =
     let fit = clauses-fit _ b in
     (omega (arith, p .count, fit .tasks, fit .handlers), λ k l. clauses-owed _ b k (omega (arith, p .count)))
 
-goes-to-requires : tie.Need-goes-to-requires
-goes-to-requires c κs =
-    let fit = clauses-fit _ (clauses _ (passed _ _ (c .before .before .before .before .before .before .before .before .before .before .before .before .before .before .before .before .before .before .pre) .in-bounds)) in
+chosen-requires : tie.Need-chosen-requires
+chosen-requires c κs =
+    let fit = clauses-fit _ (clauses _ (passed _ _ (c .before .before .before .before .before .before .before .before .before .before .before .before .before .before .before .before .before .before .before .before .pre) .in-bounds)) in
     (fit .tasks, fit .handlers)
 
 pay-requires : tie.Need-pay-requires
 pay-requires c κs =
-    let fit = clauses-fit _ (clauses _ (passed _ _ (c .before .before .before .before .before .before .before .before .before .before .before .before .before .before .before .before .before .before .before .before .pre) .in-bounds)) in
-    (fit .tasks, goes-pays _ _ _ _ (fit .tasks) (fit .handlers) _ (c .before .goes-to .ensures))
+    let fit = clauses-fit _ (clauses _ (passed _ _ (c .before .before .before .before .before .before .before .before .before .before .before .before .before .before .before .before .before .before .before .before .before .before .pre) .in-bounds)) in
+    (fit .tasks, goes-pays _ _ _ _ (fit .tasks) (fit .handlers) _ (c .before .chosen .ensures))
 
 add-late-row : tie.Need-add-late-row
-add-late-row c = omega (arith, passed _ _ (c .before .before .before .before .before .before .before .before .before .before .before .before .before .before .before .before .before .before .before .before .before .before .before .pre) .soon)
+add-late-row c = omega (arith, passed _ _ (c .before .before .before .before .before .before .before .before .before .before .before .before .before .before .before .before .before .before .before .before .before .before .before .before .before .pre) .soon)
 
 late-row-requires : tie.Need-late-row-requires
-late-row-requires c κs =
-    clauses-fit _ (clauses _ (passed _ _ (c .before .before .before .before .before .before .before .before .before .before .before .before .before .before .before .before .before .before .before .before .before .before .before .pre) .in-bounds)) .tasks
+late-row-requires c κs = clauses-fit _ (clauses _ (passed _ _ (c .before .before .before .before .before .before .before .before .before .before .before .before .before .before .before .before .before .before .before .before .before .before .before .before .before .pre) .in-bounds)) .tasks
 
 is-task-requires : tie.Need-is-task-requires
 is-task-requires c κs = search needs
 
 closed-requires : tie.Need-closed-requires
-closed-requires c κs = passed _ _ (c .before .before .before .before .before .before .before .before .before .before .before .before .before .before .before .before .before .before .before .before .before .before .before .before .before .pre) .soon
+closed-requires c κs = passed _ _ (c .before .before .before .before .before .before .before .before .before .before .before .before .before .before .before .before .before .before .before .before .before .before .before .before .before .before .before .pre) .soon
 
 returns : tie.Need-returns
 returns c =
     let late = c .before .before in
     let pays = late .before .before .before in
     let ran = pays .before .before in
-    let adds = ran .before .before .before in
+    let adds = ran .before .before .before .before .before in
     let due = adds .before .before in
     let moves = due .before .before .before .before .before in
     let start = moves .before .before .before .before .before .before .before .before .before in
     c .closed .ensures
-    ∙ tick-made _ _ _ _ _ _ _ _ _
+    ∙ tick-made (start .args .key) _ _ _ _ _ _ _ _ _
     (passed _ _ (start .pre) .count)
     (moves .move-next .ensures)
     (due .move-due .ensures)
     (adds .add-work .ensures)
-    (ran .goes-to .ensures)
+    (ran .chosen .ensures)
     (pays .pay .ensures)
     (late .late-row .ensures)
     (c .before .is-task .ensures)
@@ -77,7 +76,7 @@ ticked-spec =
     move-next-requires
     move-due-requires
     add-work-requires
-    goes-to-requires
+    chosen-requires
     pay-requires
     add-late-row
     late-row-requires
