@@ -2,8 +2,9 @@
 
    A table is two lists of 32-bit numbers: tasks in threes (cost, period, deadline, cost, ..), each deadline from 1 to
    its period, and handlers in twos (cost, period, cost, ..).
-   A count is the count of numbers, not of rows; a list with the count 0 may be NULL. Every input gets an answer; nothing lent is
-   changed but `out` and `left`, which must not overlap the lists or each other.
+   A count is the count of numbers, not of rows; a list with the count 0 may be NULL. Pointers must be valid for as many numbers as are
+   named. Every input gets an answer; nothing lent is changed but `out` and `left`, which must not overlap the lists or each other. They are
+   filled by every call: after a refused one with the refusal's number and 0 everywhere else.
    Nothing is kept between calls, so that any number of threads may call at once, each with its own `out`; no memory is asked for, and a few
    kilobytes of stack are enough.
    Running time: microseconds to milliseconds for a usual table. A verdict goes through the deadlines of tasks and the arrivals of handlers

@@ -1,13 +1,15 @@
 -- What the licensees' library lays into the caller's numbers: the figures of the promises below it, in their order.
 --   demandNumbers r    == the refusal's number or 0, then the ticks
 --   handlerNumbers r   == the same, then the work left over (02, M-106)
+--   DemandFigured, HandlerFigured   those are the figures of the answer
 --   VerdictTold t h out, HandlerTold t h l out, TaskTold t h l out, MarginTold t h l code ticks left
 --                      the numbers are those of an answer that the promise allows
 use mathlib.Core.List.{List, [], _∷_}
 use mathlib.Core.Path.{_≡_}
-use lib.IntN.{ℤ}
+use lib.IntN.{ℤ, pos}
+use lib.ListN.{getD}
 use Prim.Native.Nat.{ℕ}
-use Rattle.demand.specs.Answers.{DemandSays, HandlerSays, MarginSays, marginFigures}
+use Rattle.demand.specs.Answers.{figures, handlerFigures, marginFigures, DemandSays, HandlerSays, MarginSays}
 use Rattle.demand.specs.Demands.{due}
 use Rattle.demand.specs.Refusals.{askedRefusal}
 use Rattle.demand.specs.Rows.{tasksOf, handlersOf}
@@ -26,6 +28,16 @@ demandNumbers (demand.Refused k) = k ∷ 0 ∷ []
 abbrev pub handlerNumbers : HandlerAnswer → List ℕ
 handlerNumbers (handler.Ticks n m) = 0 ∷ n ∷ m ∷ []
 handlerNumbers (handler.Refused k) = k ∷ 0 ∷ 0 ∷ []
+
+abbrev pub DemandFigured : Type 0
+DemandFigured = (r : DemandAnswer) → (getD (demandNumbers r) 0 0 ≡ figures r .code) × (pos (getD (demandNumbers r) 1 0) ≡ figures r .ticks)
+
+abbrev pub HandlerFigured : Type 0
+HandlerFigured =
+    (r : HandlerAnswer)
+    → (getD (handlerNumbers r) 0 0 ≡ handlerFigures r .code)
+    × (pos (getD (handlerNumbers r) 1 0) ≡ handlerFigures r .ticks)
+    × (getD (handlerNumbers r) 2 0 ≡ handlerFigures r .left)
 
 pub record VerdictTold (t h out : List ℕ) : Type 0 where
   pub answer : Answer
