@@ -7,3 +7,4 @@ pub mod Orders
 pub mod ShuffledLoads
 pub mod ShuffledCounts
 pub mod OtherOrder
+pub mod Instances
