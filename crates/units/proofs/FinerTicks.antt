@@ -36,29 +36,6 @@ module _ (k : ℕ) (pos : 0 < k) (t h : List ℕ) (readable : verdictRefusal t h
   load-times : load (tasksOf t) (handlersOf h) ≡ load (tasksOf (times k t)) (handlersOf (times k h))
   load-times = rw (tasks-times k t, handlers-times k h) (sym (load-scale k (tasksOf t) (handlersOf h) pos pt ph (fair .some-task)))
 
-  -- A yes stays a yes.
-  fits-times : (g : Figures) → SaysFits t h g → SaysFits (times k t) (times k h) (figuresTimes k g)
-  unfolding figuresTimes
-  fits-times g a = record {
-    readable = readable';
-    passes = rw (tasks-times k t, handlers-times k h) (always-scale k pos (tasksOf t) (handlersOf h) (fair .deadlines) ph (a .passes));
-    count = rw (tasks-times k t, handlers-times k h) (yes-count-times k (g .tested) (tasksOf t) (handlersOf h) pos fair finer (a .count));
-    figures = ap (figuresTimes k) (a .figures) ∙ finer-yes;
-  }
-    where
-      -- what does not apply is 0 in any ticks
-      finer-yes : figuresTimes k (yesOf (load (tasksOf t) (handlersOf h)) (g .tested)) ≡ yesOf (load (tasksOf (times k t)) (handlersOf (times k h))) (g .tested)
-      finer-yes = λ i. record {
-        word = fits;
-        code = 0;
-        interval = mul-zero k i;
-        handler = mul-zero k i;
-        task = mul-zero k i;
-        load = load-times i;
-        left = mul-zero k i;
-        tested = g .tested;
-      }
-
   -- The figures of a no at l, in finer ticks.
   module _ (l : ℕ) where
     handler-times : k * handled (handlersOf h) l ≡ handled (handlersOf (times k h)) (k * l)
@@ -86,6 +63,29 @@ module _ (k : ℕ) (pos : 0 < k) (t h : List ℕ) (readable : verdictRefusal t h
       left = over-times i;
       tested = count-times i;
     }
+
+  -- A yes stays a yes.
+  fits-times : (g : Figures) → SaysFits t h g → SaysFits (times k t) (times k h) (figuresTimes k g)
+  unfolding figuresTimes
+  fits-times g a = record {
+    readable = readable';
+    passes = rw (tasks-times k t, handlers-times k h) (always-scale k pos (tasksOf t) (handlersOf h) (fair .deadlines) ph (a .passes));
+    count = rw (tasks-times k t, handlers-times k h) (yes-count-times k (g .tested) (tasksOf t) (handlersOf h) pos fair finer (a .count));
+    figures = ap (figuresTimes k) (a .figures) ∙ finer-yes;
+  }
+    where
+      -- what does not apply is 0 in any ticks
+      finer-yes : figuresTimes k (yesOf (load (tasksOf t) (handlersOf h)) (g .tested)) ≡ yesOf (load (tasksOf (times k t)) (handlersOf (times k h))) (g .tested)
+      finer-yes = λ i. record {
+        word = fits;
+        code = 0;
+        interval = mul-zero k i;
+        handler = mul-zero k i;
+        task = mul-zero k i;
+        load = load-times i;
+        left = mul-zero k i;
+        tested = g .tested;
+      }
 
   -- A no stays a no, at k times the length, with k times both demands.
   misses-times : (g : Figures) → SaysMisses t h g → SaysMisses (times k t) (times k h) (figuresTimes k g)
