@@ -16,6 +16,7 @@ mod random;
 mod scheduler;
 mod steps;
 mod tables;
+mod units;
 
 use random::Random;
 use std::io::Read;
@@ -41,6 +42,8 @@ struct Counts {
     ranked: u64,
     in_time: u64,
     late: u64,
+    /// Tables compared with themselves in finer ticks and in another order.
+    again: u64,
 }
 
 fn differ(what: &str, table: &Table, ours: String, theirs: String) -> ! {
@@ -229,6 +232,10 @@ fn main() {
             let table = kind(&mut random);
             judge(&table, &mut counts);
             rank(&table, &mut counts);
+            match units::compare(&mut random, &table) {
+                Ok(compared) => counts.again += compared as u64,
+                Err(what) => differ("in other ticks or another order", &table, what, "the same board".into()),
+            }
             for _ in 0..3 {
                 let l = random.from_to(0, 300);
                 ask(&table, l, &mut counts);
@@ -246,6 +253,7 @@ fn main() {
         "seed {seed}: {} tables, {} verdicts compared ({} fits, {} misses, {} refused; {} with short deadlines), {} questions compared, 0 differences",
         counts.tables, counts.verdicts, counts.fits, counts.misses, counts.refused, counts.short, counts.questions
     );
+    println!("seed {seed}: {} tables alike in finer ticks and in another order, 0 differences", counts.again);
     println!("seed {seed}: {} idle points where W and H put them, {} tables without one, 0 differences", counts.idle[0], counts.idle[1]);
     println!(
         "seed {seed}: {} runs, {} steps compared ({} by priority; {} late, refused 6 to 11: {:?}), 0 differences",
