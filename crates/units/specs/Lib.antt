@@ -1,4 +1,5 @@
--- Contents. A table in finer ticks, and in another order (02, M-104), said of the very definitions that `verdict` promises.
+-- Contents. A table in finer ticks, and in another order (02, M-104), said of the very definitions that `verdict` and
+-- `responses` promise.
 -- every cost, period and deadline multiplied by one whole number
 pub mod Finer
 -- what that does to the figures of a sheet
@@ -7,3 +8,5 @@ pub mod FinerTicks
 pub mod Orders
 -- which changes no answer
 pub mod OtherOrder
+-- the least lengths of fixed priorities, in both
+pub mod Responses
