@@ -19,6 +19,21 @@ fn shuffled(random: &mut Random, list: &[u32], width: usize) -> Vec<u32> {
     rows.concat()
 }
 
+/// A task whose period no other has keeps its response, wherever its row went.
+fn own_response(table: &Table, other: &Table) -> Result<(), String> {
+    let (_, least) = proved::responses(&table.tasks, &table.handlers);
+    let (_, got) = proved::responses(&other.tasks, &other.handlers);
+    let places = |t: &Table, period: u32| (0..t.tasks.len() / 3).filter(|i| t.tasks[3 * i + 1] == period).collect::<Vec<_>>();
+    for period in table.tasks.chunks(3).map(|row| row[1]) {
+        if let ([i], [j]) = (&places(table, period)[..], &places(other, period)[..]) {
+            if least[*i] != got[*j] {
+                return Err(format!("response {} of period {period} became {} in another order", least[*i], got[*j]));
+            }
+        }
+    }
+    Ok(())
+}
+
 /// Whether a readable table was compared; an error says what differs.
 pub fn compare(random: &mut Random, table: &Table) -> Result<bool, String> {
     let sheet = proved::verdict(&table.tasks, &table.handlers);
@@ -30,6 +45,7 @@ pub fn compare(random: &mut Random, table: &Table) -> Result<bool, String> {
     if got != sheet {
         return Err(format!("{sheet:?} became {got:?} with the rows in the order {:?}, {:?}", other.tasks, other.handlers));
     }
+    own_response(table, &other)?;
     let k = random.from_to(1, 7) as u32;
     let Some(fine) = finer(table, k) else { return Ok(true) };
     let got = proved::verdict(&fine.tasks, &fine.handlers);
