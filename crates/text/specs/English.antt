@@ -1,4 +1,4 @@
--- The English line of a refusal number (01, "Numbered refusals"; 02, M-101 for 1 and 13): the table's own words.
+-- The English line of a refusal number (01, "Numbered refusals"; 02, M-101 for 1 and 13, M-107 for 14): the table's own words.
 --   english n   == the line of the number n, "unknown" for a number that is not in the table
 use mathlib.Core.List.{List, [], _∷_}
 use Prim.Native.Nat.{ℕ}
@@ -22,6 +22,7 @@ phrases =
     ∷ ascii "an arrival brings more than the row's cost"
     ∷ ascii "the file breaks the layout below"
     ∷ ascii "deadline 0 or above its period, or a handler with one"
+    ∷ ascii "N out of range"
     ∷ []
 
 unfoldable pub english : ℕ → List ℕ

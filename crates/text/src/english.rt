@@ -44,6 +44,7 @@ pub fn line(number: u32) -> Text
         6..=11 => of_run(number),
         12 => of(b"the file breaks the layout below"),
         13 => of(b"deadline 0 or above its period, or a handler with one"),
+        14 => of(b"N out of range"),
         _ => of(b"unknown"),
     }
 }

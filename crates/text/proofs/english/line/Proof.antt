@@ -18,17 +18,23 @@ slice-aggregate-of-2 c = search needs
 of-requires-2 : tie.Need-of-requires-2
 of-requires-2 c κs = search needs
 
+slice-aggregate-of-3 : tie.Need-slice-aggregate-of-3
+slice-aggregate-of-3 c = search needs
+
+of-requires-3 : tie.Need-of-requires-3
+of-requires-3 c κs = search needs
+
 of-table-requires : tie.Need-of-table-requires
 of-table-requires c κs = search needs
 
 of-run-requires : tie.Need-of-run-requires
 of-run-requires c κs = search needs
 
-slice-aggregate-of-3 : tie.Need-slice-aggregate-of-3
-slice-aggregate-of-3 c = search needs
+slice-aggregate-of-4 : tie.Need-slice-aggregate-of-4
+slice-aggregate-of-4 c = search needs
 
-of-requires-3 : tie.Need-of-requires-3
-of-requires-3 c κs = search needs
+of-requires-4 : tie.Need-of-requires-4
+of-requires-4 c κs = search needs
 
 returns : tie.Need-returns
 unfolding english
@@ -39,16 +45,20 @@ unfolding english
 returns-2 c = said _ 13 (c .before .before .match .keys2) (c .of2 .ensures)
 
 returns-3 : tie.Need-returns-3
-returns-3 c = search needs
+unfolding english
+returns-3 c = said _ 14 (c .before .before .match .keys3) (c .of3 .ensures)
 
 returns-4 : tie.Need-returns-4
 returns-4 c = search needs
 
 returns-5 : tie.Need-returns-5
+returns-5 c = search needs
+
+returns-6 : tie.Need-returns-6
 unfolding english
-returns-5 c =
+returns-6 c =
     let n = c .before .before .before .before .args .number in
-    ⊎-elim (λ w. said n 0 (omega arith) (c .of3 .ensures)) (λ w. said-past n (omega arith) (c .of3 .ensures)) (c .before .before .if1 .came)
+    ⊎-elim (λ w. said n 0 (omega arith) (c .of4 .ensures)) (λ w. said-past n (omega arith) (c .of4 .ensures)) (c .before .before .if1 .came)
 
 pub line-spec : {M : Type 1} → statement M
 line-spec =
@@ -58,12 +68,15 @@ line-spec =
     of-requires
     slice-aggregate-of-2
     of-requires-2
-    of-table-requires
-    of-run-requires
     slice-aggregate-of-3
     of-requires-3
+    of-table-requires
+    of-run-requires
+    slice-aggregate-of-4
+    of-requires-4
     returns
     returns-2
     returns-3
     returns-4
-    returns-5)
+    returns-5
+    returns-6)

@@ -1,0 +1,7 @@
+-- Contents. What a reader must believe of the rows of a guard (02, M-107):
+-- what a guard costs, and its refusals
+pub mod Guards
+-- what the public call answers
+pub mod Answers
+-- what no promise cites
+pub mod Inside
