@@ -1,2 +1,3 @@
--- Laws of the answer.
+-- Laws of the answer, and the worked guards.
 pub mod Answers
+pub mod Cases

@@ -3,5 +3,7 @@
 pub mod Guards
 -- what the public call answers
 pub mod Answers
+-- guards worked by hand: one list, one statement
+pub mod Cases
 -- what no promise cites
 pub mod Inside

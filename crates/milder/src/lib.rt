@@ -1,0 +1,1 @@
+// A milder guard keeps a yes: theorems about rows and verdict. No code.
