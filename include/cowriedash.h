@@ -1,4 +1,5 @@
-/* Cowriedash for C: the verdict on a table, the two demands and the responses by fixed priority, without the scheduler.
+/* Cowriedash for C: the verdict on a table, the two demands, the responses by fixed priority and the rows of guarded interrupts, without
+   the scheduler.
 
    A table is two lists of 32-bit numbers: tasks in threes (cost, period, deadline, cost, ..), each deadline from 1 to
    its period, and handlers in twos (cost, period, cost, ..).
@@ -14,6 +15,7 @@
 #ifndef COWRIEDASH_H
 #define COWRIEDASH_H
 
+#include <stdbool.h>
 #include <stddef.h>
 #include <stdint.h>
 
@@ -55,6 +57,14 @@ enum { COWRIEDASH_TASKS_MOST = 64 };
    there is none, past the last task and if refused. H may be of any size. At most a million turns, each through all rows. */
 uint32_t cowriedash_responses(const uint32_t *tasks, size_t tasks_count, const uint32_t *handlers, size_t handlers_count,
                               uint64_t out[64]);
+
+/* How many counts a guard has: N, int, flip, setup, work, expire, count, clear, gap, in this order. */
+enum { COWRIEDASH_COUNTS = 9 };
+
+/* The two handler rows of a guard that limits a device's interrupts in software, from measured tick counts. A strict guard has no N, count
+   or clear, a bursty one no setup: what stands there is not read. out: the refusal's number (14 or 3) or 0; the cost of the interrupt's
+   row; that of the timer's; the period of both, which is the gap. All three are 0 if refused. */
+void cowriedash_guard_rows(bool bursty, const uint32_t counts[COWRIEDASH_COUNTS], uint64_t out[4]);
 
 #ifdef __cplusplus
 }

@@ -1,4 +1,4 @@
-/* Do tasks 2/5 and 4/8, each due by its next arrival, fit beside a handler 1/4? */
+/* Do tasks 2/5 and 4/8, each due by its next arrival, fit beside a handler 1/4? And what are the rows of a guard? */
 #include <inttypes.h>
 #include <stdio.h>
 
@@ -6,7 +6,9 @@
 
 int main(void) {
     const uint32_t tasks[] = {2, 5, 5, 4, 8, 8}, handlers[] = {1, 4};
-    uint64_t sheet[COWRIEDASH_NUMBERS], left, response[COWRIEDASH_TASKS_MOST];
+    /* A guard that lets 15 interrupts through every 40,000 ticks: N, int, flip, setup (it has none), work, expire, count, clear, gap. */
+    const uint32_t guard[COWRIEDASH_COUNTS] = {15, 79, 5, 0, 600, 79, 12, 5, 40000};
+    uint64_t sheet[COWRIEDASH_NUMBERS], left, response[COWRIEDASH_TASKS_MOST], rows[4];
     int64_t margin;
 
     cowriedash_verdict(tasks, 6, handlers, 2, sheet);
@@ -16,5 +18,8 @@ int main(void) {
         printf("margin at 8: %" PRId64 ", left %" PRIu64 "\n", margin, left);
     if (cowriedash_responses(tasks, 6, handlers, 2, response) == 0)
         printf("by priority: task 0 within %" PRIu64 ", task 1 %s\n", response[0], response[1] ? "in time" : "not in time");
+    cowriedash_guard_rows(true, guard, rows);
+    if (rows[0] == 0)
+        printf("guard: interrupt %" PRIu64 "/%" PRIu64 ", timer %" PRIu64 "/%" PRIu64 "\n", rows[1], rows[3], rows[2], rows[3]);
     return 0;
 }

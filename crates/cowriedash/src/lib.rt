@@ -1,5 +1,6 @@
 // The licensees' library: the demands and the verdict for C, with numbers and slices only at the boundary.
 pub mod by_priority;
+pub mod guard_rows;
 
 ghost use Rattle.cowriedash.specs.Numbers.{demandNumbers, handlerNumbers, VerdictTold, HandlerTold, TaskTold, MarginTold};
 ghost use mathlib.Core.Path.{_≡_};
