@@ -1,6 +1,6 @@
 /* The proved libraries at the far end of a pipe: a question in, its answer out, so that the second program links none of them.
-   A question is its number (1 verdict, 2 handler demand, 3 task demand, 4 margin, 5 fresh, 6 step, 7 responses, 8 step by priority) and
-   what it asks about. */
+   A question is its number (1 verdict, 2 handler demand, 3 task demand, 4 margin, 5 fresh, 6 step, 7 responses, 8 step by priority,
+   9 rows of a guard) and what it asks about. */
 #include <stdint.h>
 #include <stdio.h>
 #include <stdlib.h>
@@ -56,6 +56,8 @@ static void answer(uint64_t question) {
     uint64_t out[COWRIEDASH_NUMBERS] = {0};
     uint64_t lengths[COWRIEDASH_TASKS_MOST];
     int64_t ticks = 0;
+    uint32_t counts[COWRIEDASH_COUNTS];
+    bool bursty;
     switch (question) {
     case 1:
         table();
@@ -100,6 +102,12 @@ static void answer(uint64_t question) {
         tasks_count = list(tasks);
         harness_step_by_priority(run.t, run.h, run.next, run.due, run.owed, run.figures, tasks, tasks_count);
         put(&run, sizeof run);
+        break;
+    case 9:
+        bursty = number() != 0;
+        get(counts, sizeof counts);
+        cowriedash_guard_rows(bursty, counts, out);
+        put(out, 4 * sizeof *out);
         break;
     default:
         exit(1);

@@ -8,6 +8,7 @@
 //!                                      to PATIENCE fails and that settles nothing, `patience PATIENCE LENGTH`: how far it would have to go
 
 mod files;
+mod guards;
 mod idle;
 mod model;
 mod priority;
@@ -173,6 +174,16 @@ fn run_all(random: &mut Random, table: &Table, steps: &mut steps::Counts) {
     }
 }
 
+/// Rows of guards, and tables that a milder guard must keep.
+fn guard(random: &mut Random, guards: &mut guards::Counts) {
+    for compared in [guards::compare, guards::compare, guards::compare, guards::lower] {
+        if let Err(what) = compared(random, guards) {
+            println!("DIFFERENT guard: {what}");
+            exit(1);
+        }
+    }
+}
+
 /// Files through a program, damaged ones among them. How many were compared, and how many of them break the layout.
 fn read_all(random: &mut Random, count: u64, program: &str, lines: fn(&[u8]) -> Option<String>) -> (u64, u64) {
     let (mut compared, mut broken) = (0, 0);
@@ -227,6 +238,7 @@ fn main() {
     let mut random = Random::new(seed);
     let mut counts = Counts::default();
     let mut steps = steps::Counts::default();
+    let mut guards = guards::Counts::default();
     for _ in 0..count {
         for kind in [tables::small, tables::hostile, tables::wide] {
             let table = kind(&mut random);
@@ -243,6 +255,7 @@ fn main() {
             let l = random.one_of(&[0, 1, 999, 9_999, 1_000_000_001, u64::MAX]);
             ask(&table, l, &mut counts);
             run_all(&mut random, &table, &mut steps);
+            guard(&mut random, &mut guards);
         }
         ask_wholes(&mut random, &mut counts);
     }
@@ -262,6 +275,14 @@ fn main() {
     println!(
         "seed {seed}: responses of {} tables compared ({} tasks have one, {} have none), 0 differences",
         counts.ranked, counts.in_time, counts.late
+    );
+    println!(
+        "seed {seed}: {} guards compared ({} with rows, {} refused by 14, {} by 3), {} tables that a milder one kept, 0 differences",
+        guards.rows + guards.burst + guards.outside,
+        guards.rows,
+        guards.burst,
+        guards.outside,
+        guards.kept
     );
     let (compared, broken) = read_all(&mut random, count, program, |file| files::sheet(file, PATIENCE).ok());
     println!("seed {seed}: {compared} files compared ({broken} broken), 0 differences");

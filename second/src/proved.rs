@@ -94,3 +94,8 @@ pub fn responses(t: &[u32], h: &[u32]) -> (u32, Vec<u64>) {
     let mut out = about(7, t, h).answer(65 * 8);
     (out.longs(1)[0] as u32, out.longs(64))
 }
+
+/// The refusal's number or 0, both costs, and the period.
+pub fn guard_rows(bursty: bool, counts: &[u32; 9]) -> Vec<u64> {
+    Laid::question(9).number(bursty as u64).words(counts).answer(32).longs(4)
+}
