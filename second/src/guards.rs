@@ -5,7 +5,8 @@ use crate::proved;
 use crate::random::Random;
 use crate::tables::{self, Table};
 
-/// A guard by its counts: N, int, flip, setup, work, expire, count, clear, gap. A strict one has no N, count or clear, a bursty one no setup.
+/// A guard by its counts: N, int, flip, setup, work, expire, count, clear, gap. A strict one has no N, count or clear, a bursty one no
+/// setup.
 #[derive(Clone, Debug)]
 pub struct Guard {
     pub bursty: bool,

@@ -10,7 +10,8 @@ use Rattle.demand.specs.Refusals.{rowOutside, FairRow}
 use Rattle.demand.specs.Tests.{pick, firstRefusal}
 use Rattle.demand.proofs.Refusals.{neither, fair-row}
 use Rattle.guards.specs.Answers.{figures, figuresBy, RowsSay, RowsUnique}
-use Rattle.guards.specs.Guards.{interruptCost, timerCost, gapOf, burstMost, burstOutside, handlerRow, rowsOutside, guardTests, guardRefusal}
+use Rattle.guards.specs.Guards.{interruptCost, timerCost, gapOf, handlerRow}
+use Rattle.guards.specs.Guards.{burstMost, burstOutside, rowsOutside, guardTests, guardRefusal}
 use Rattle.guards.specs.Inside.{rowsBy}
 use Rattle.guards.specs.declared.Answer.{Answer}
 use Rattle.guards.specs.declared.Answer.the-variants.{Rows, Refused}

@@ -6,7 +6,7 @@ use mathlib.Core.Path.{_≡_, refl, ap, _∙_}
 use lib.ListN.{getD, drop}
 use Rattle.demand.specs.Tests.{firstRefusal}
 use Rattle.guards.specs.Answers.{Figures, figuresBy}
-use Rattle.guards.specs.Cases.{Case, cases, CaseHolds, EveryCase}
+use Rattle.guards.specs.Cases.{Case, cases, EveryCase}
 use Rattle.guards.specs.Guards.{guardTests, guardRefusal}
 
 unfoldable comeTo : List Case → List Figures

@@ -1,13 +1,13 @@
 -- A table with costs of handlers cut and their periods kept: its refusal, and that what passed still passes.
 --   CutRow r q    the row r is q with a cost in range that is no greater
 --   Cut rs qs     so is each row of rs, of as many
-use mathlib.Core.Bool.{Bool, false}
+use mathlib.Core.Bool.{false}
 use mathlib.Core.List.{List, [], _∷_}
 use mathlib.Core.Path.{_≡_, refl, ap, sym, _∙_}
 use native.Mathlib.Omega.{arith}
 use lib.ListN.{length}
-use Prim.Native.Nat.{ℕ, zero, suc, _/_, _≤_, _<_}
-use Rattle.demand.specs.Lighter.{Lighter}
+use Prim.Native.Nat.{ℕ, suc, _/_, _≤_, _<_}
+use Rattle.demand.specs.Lighter.{Eased, Lighter}
 use Rattle.demand.specs.Lighter.Lighter.{none, eased}
 use Rattle.demand.specs.Multiples.{lcmFrom}
 use Rattle.demand.specs.Refusals.{rowOutside, tableTests, tableRefusal, Fair, FairRow, InRange}
@@ -71,7 +71,9 @@ cut-lcm (r ∷ rs) (q ∷ qs) a c =
 -- Rows that stay are no heavier.
 lighter-same : (rs : List Row) → Lighter rs rs
 lighter-same [] = none
-lighter-same (r ∷ rs) = eased {r = r} {q = r} (record { cost = omega arith; period = omega arith; deadline = omega arith }) (lighter-same rs)
+lighter-same (r ∷ rs) =
+    let same : Eased r r = record { cost = omega arith; period = omega arith; deadline = omega arith } in
+    eased {r = r} {q = r} same (lighter-same rs)
 
 -- Rows in range meet no refusal 3.
 fair-none : (rs : List Row) → Each FairRow rs → some rowOutside rs ≡ false

@@ -27,7 +27,7 @@ use Rattle.verdict.proofs.Facts.Ends.{period-ends}
 use Rattle.verdict.proofs.Lightening.{only-fits}
 use Rattle.verdict.proofs.Readable.{readable-in-range}
 use Rattle.milder.specs.Milder.{Milder}
-use Rattle.milder.specs.MilderKeeps.{HoldsRows, OthersKept, MilderKeeps}
+use Rattle.milder.specs.MilderKeeps.{MilderKeeps}
 use Rattle.milder.proofs.MilderKeeps.{milder-keeps}
 
 -- ---- the guards: rows 5/40 and 2/40, and 7/40 and 3/40
@@ -53,6 +53,21 @@ burst-rows = record { answer = refl; figured = refl }
 burst-eased-rows : RowsSay (burst 1) (Rows 4 3 40)
 unfolding figures figuresBy guardRefusal guardTests firstRefusal
 burst-eased-rows = record { answer = refl; figured = refl }
+
+-- Less work, and a burst of one.
+strict-milder : Milder (strict 1) (strict 2)
+strict-milder = record {
+  kind = refl;
+  gap = refl;
+  counts = (omega arith, (omega arith, (omega arith, (omega arith, (omega arith, tt)))));
+}
+
+burst-milder : Milder (burst 1) (burst 2)
+burst-milder = record {
+  kind = refl;
+  gap = refl;
+  counts = (omega arith, (omega arith, (omega arith, (omega arith, (omega arith, (omega arith, (omega arith, tt)))))));
+}
 
 -- ---- the table, which fits
 
@@ -99,7 +114,7 @@ pub work-lowered : StaysYes (handlers 4 7)
 unfolding MilderKeeps handlersOf
 work-lowered r r' says says' =
     milder-keeps (strict 2) (strict 1) 5 2 40 4 2 40 tasks (handlers 5 7) (handlers 4 7) 2 0 r r' strict-rows strict-eased-rows
-    (record { kind = refl; gap = refl; counts = (omega arith, (omega arith, (omega arith, (omega arith, (omega arith, tt))))) })
+    strict-milder
     (record { interrupt = refl; timer = refl })
     (record { interrupt = refl; timer = refl })
     (record { count = refl; others = others })
@@ -115,7 +130,7 @@ pub burst-lowered : StaysYes (handlers 5 4)
 unfolding MilderKeeps handlersOf
 burst-lowered r r' says says' =
     milder-keeps (burst 2) (burst 1) 7 3 40 4 3 40 tasks (handlers 5 7) (handlers 5 4) 1 3 r r' burst-rows burst-eased-rows
-    (record { kind = refl; gap = refl; counts = (omega arith, (omega arith, (omega arith, (omega arith, (omega arith, (omega arith, (omega arith, tt))))))) })
+    burst-milder
     (record { interrupt = refl; timer = refl })
     (record { interrupt = refl; timer = refl })
     (record { count = refl; others = others })

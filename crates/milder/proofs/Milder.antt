@@ -24,8 +24,10 @@ cost-milder (Bursty n' int' flip' work' expire' count' clear' gap') (Bursty n in
     let less : int' + work' + count' ≤ int + work + count = omega arith in
     let burst : n' * (int' + work' + count') ≤ n * (int + work + count) = mul-le-mul few less in
     (omega arith, omega arith)
-cost-milder (Strict int flip setup work expire gap) (Bursty n int' flip' work' expire' count' clear' gap') m = absurd (m .counts .1 .1 .1 .1 .1)
-cost-milder (Bursty n int flip work expire count clear gap) (Strict int' flip' setup' work' expire' gap') m = absurd (m .counts .1 .1 .1 .1 .1)
+cost-milder (Strict int' flip' setup' work' expire' gap') (Bursty n int flip work expire count clear gap) m =
+    absurd (m .counts .1 .1 .1 .1 .1)
+cost-milder (Bursty n int' flip' work' expire' count' clear' gap') (Strict int flip setup work expire gap) m =
+    absurd (m .counts .1 .1 .1 .1 .1)
 
 -- ---- what the answer Rows says of a guard
 

@@ -1,18 +1,17 @@
 -- M-107 (specs/MilderKeeps): the handlers of the new table are those of the old one with two costs cut.
 use mathlib.Core.Bool.{Bool, true, false}
 use mathlib.Core.List.{List}
-use mathlib.Core.Path.{_≡_, refl, ap, _∙_}
+use mathlib.Core.Path.{_≡_, refl}
 use native.Mathlib.Omega.{arith}
 use borrow.Author.Tests.{eqb-true, eqb-false}
 use lib.Dec.{eqb}
 use lib.ListN.{length}
 use Prim.Native.Nat.{ℕ, _≤_, _<_}
 use Rattle.demand.specs.Refusals.{FairRow, Fair}
-use Rattle.demand.specs.Rows.{Row, rowAt, tasksOf, handlersOf, Each}
+use Rattle.demand.specs.Rows.{Row, rowAt, handlersOf, Each}
 use Rattle.demand.proofs.Inside.Places.{each-at}
 use Rattle.guards.specs.Guards.{handlerRow}
-use Rattle.verdict.specs.Lengths.{AlwaysPasses}
-use Rattle.verdict.specs.Promise.{figures, verdictRefusal, SaysFits, VerdictSays}
+use Rattle.verdict.specs.Promise.{figures, SaysFits, VerdictSays}
 use Rattle.verdict.proofs.Lightening.{says-fits, only-fits}
 use Rattle.verdict.proofs.Readable.{readable-in-range}
 use Rattle.milder.specs.MilderKeeps.{HoldsRows, OthersKept, MilderKeeps}
@@ -43,6 +42,7 @@ rows-cut h h' i j a b a' b' p was is kept fair-a fair-b less-a less-b fair = rec
     at k below false ei false ej =
         row-kept (kept .others k (eqb-false k i ei) (eqb-false k j ej)) (each-at FairRow (handlersOf h) fair k below)
 
+-- Costs no greater, in range, and the same gap: the new table is readable and passes wherever the old one did.
 pub milder-keeps : MilderKeeps
 unfolding MilderKeeps VerdictSays
 milder-keeps g g' a b p a' b' p' t h h' i j r r' says says' milder holds holds' kept told word told' =

@@ -16,19 +16,22 @@ returns c = outside-rows _ _ _ (rw (c .before .before .row-outside .ensures, c .
 cast-t7 : tie.Need-cast-t7
 cast-t7 c =
     let x = c .before .before .before .args in
-    let fair = rows-fair (x .interrupt) (x .timer) (x .period) (rw (c .before .before .row-outside .ensures, c .before .row-outside2 .ensures) at (c .if1 .left)) in
+    let inside = rw (c .before .before .row-outside .ensures, c .before .row-outside2 .ensures) at (c .if1 .left) in
+    let fair = rows-fair (x .interrupt) (x .timer) (x .period) inside in
     omega (arith, fair .0 .cost .most)
 
 cast-t8 : tie.Need-cast-t8
 cast-t8 c =
     let x = c .before .before .before .args in
-    let fair = rows-fair (x .interrupt) (x .timer) (x .period) (rw (c .before .before .row-outside .ensures, c .before .row-outside2 .ensures) at (c .if1 .left)) in
+    let inside = rw (c .before .before .row-outside .ensures, c .before .row-outside2 .ensures) at (c .if1 .left) in
+    let fair = rows-fair (x .interrupt) (x .timer) (x .period) inside in
     omega (arith, fair .1 .cost .most)
 
 cast-t9 : tie.Need-cast-t9
 cast-t9 c =
     let x = c .before .before .before .args in
-    let fair = rows-fair (x .interrupt) (x .timer) (x .period) (rw (c .before .before .row-outside .ensures, c .before .row-outside2 .ensures) at (c .if1 .left)) in
+    let inside = rw (c .before .before .row-outside .ensures, c .before .row-outside2 .ensures) at (c .if1 .left) in
+    let fair = rows-fair (x .interrupt) (x .timer) (x .period) inside in
     omega (arith, fair .0 .period .most)
 
 returns-2 : tie.Need-returns-2

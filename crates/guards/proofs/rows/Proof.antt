@@ -45,7 +45,9 @@ three-requires-2 : tie.Need-three-requires-2
 three-requires-2 c κs = search needs
 
 mul-ranged : tie.Need-mul-ranged
-mul-ranged c = omega (arith, burst-small (c .before .before .wide5 .result) (c .three2 .result) (c .before .if1 .left) (c .three2 .ensures .1))
+mul-ranged c =
+    let each = c .three2 in
+    omega (arith, burst-small (c .before .before .wide5 .result) (each .result) (c .before .if1 .left) (each .ensures .1))
 
 wide-requires-6 : tie.Need-wide-requires-6
 wide-requires-6 c κs = search needs
