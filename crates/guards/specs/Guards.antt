@@ -3,7 +3,10 @@
 --   timerCost g       == that of its timer row
 --   gapOf g           == the period of both: the gap between interrupts, or between bursts
 --   burstMost         == the most interrupts of a burst
---   guardTests g      == the tests of a guard, each with its number: 14, 3
+--   burstOutside g    == the test of 14
+--   handlerRow c p    == the handler row c/p
+--   rowsOutside i t p == the test of 3, of the rows i/p and t/p
+--   guardTests g      == both tests, each with its number: 14, 3
 --   guardRefusal g    == the number of its refusal, 0 for none
 use mathlib.Core.Bool.{Bool, false, _||_}
 use mathlib.Core.List.{List, [], _∷_}
