@@ -1,0 +1,4 @@
+-- What no promise cites: how the reader goes from byte to byte, what it keeps, and how its page is put together.
+pub mod Steps
+pub mod Building
+pub mod Pages
