@@ -4,3 +4,4 @@ pub mod Laid
 pub mod Printed
 pub mod Sheets
 pub mod Whole
+pub mod Lent
