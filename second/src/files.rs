@@ -102,7 +102,8 @@ pub fn file(random: &mut Random) -> Vec<u8> {
     bytes
 }
 
-fn damage(random: &mut Random, bytes: &mut Vec<u8>) {
+/// One or two bytes more, fewer or others, or the end cut off.
+pub fn damage(random: &mut Random, bytes: &mut Vec<u8>) {
     for _ in 0..random.from_to(1, 2) {
         let at = random.below(bytes.len() as u64 + 1) as usize;
         let byte = random.one_of(b"\r\n,0159 \"tThk\0\xEF");

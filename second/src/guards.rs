@@ -24,7 +24,7 @@ pub struct Counts {
 }
 
 /// The refusal's number or 0, the cost of the interrupt, that of the timer, the period of both.
-fn rows(guard: &Guard) -> Vec<u64> {
+pub fn rows(guard: &Guard) -> Vec<u64> {
     let [n, int, flip, setup, work, expire, count, clear, gap] = guard.counts.map(u128::from);
     let (interrupt, timer) = if guard.bursty {
         if !(1..=1_000).contains(&n) {
@@ -50,7 +50,7 @@ fn count(random: &mut Random, most: u64) -> u32 {
     }
 }
 
-fn any(random: &mut Random) -> Guard {
+pub fn any(random: &mut Random) -> Guard {
     let most = random.one_of(&[1, 9, 300, 1_000, 250_000, 500_000, u32::MAX as u64]);
     let mut counts = [(); 9].map(|()| count(random, most));
     // A usual N and gap, so that most guards reach the sums.

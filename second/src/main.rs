@@ -1,13 +1,15 @@
 //! Compares the proved library with the slow second program on many tables.
-//!     second SEED COUNT FIT ANSWERS BY_PRIORITY
+//!     second SEED COUNT FIT ANSWERS BY_PRIORITY GUARD_ROWS
 //!                                      COUNT tables of each kind through the program ANSWERS (second/answers.c), and as many files
-//!                                      through the programs FIT and BY_PRIORITY; ends with status 1 at the first difference, and prints
-//!                                      what shows it
+//!                                      through the programs FIT, BY_PRIORITY and GUARD_ROWS; ends with status 1 at the first difference,
+//!                                      and prints what shows it
+//!     second guards PATIENCE           reads a file of guards from standard input and prints the lines that `guard_rows` must print
 //!     second priority PATIENCE         the same of the lines that `by_priority` must print; every length up to the deadline is tried
 //!     second fit PATIENCE              reads a table file from standard input and prints the lines that `fit` must print, or, where no length up
 //!                                      to PATIENCE fails and that settles nothing, `patience PATIENCE LENGTH`: how far it would have to go
 
 mod files;
+mod guard_files;
 mod guards;
 mod idle;
 mod model;
@@ -185,10 +187,10 @@ fn guard(random: &mut Random, guards: &mut guards::Counts) {
 }
 
 /// Files through a program, damaged ones among them. How many were compared, and how many of them break the layout.
-fn read_all(random: &mut Random, count: u64, program: &str, lines: fn(&[u8]) -> Option<String>) -> (u64, u64) {
+fn read_all(random: &mut Random, count: u64, program: &str, made: fn(&mut Random) -> Vec<u8>, lines: fn(&[u8]) -> Option<String>) -> (u64, u64) {
     let (mut compared, mut broken) = (0, 0);
     for _ in 0..count {
-        let file = files::file(random);
+        let file = made(random);
         let Some(want) = lines(&file) else { continue };
         let got = files::run(program, &file);
         if got != want {
@@ -215,6 +217,7 @@ fn print_lines(command: &str, patience: u128) {
             Ok(lines) => print!("{lines}"),
             Err(length) => println!("patience {patience} {length}"),
         },
+        "guards" => print!("{}", guard_files::lines(&file)),
         // No deadline is longer than a million ticks.
         _ => print!("{}", priority::lines(&file, model::FIGURE).unwrap()),
     }
@@ -224,13 +227,13 @@ fn main() {
     let words: Vec<String> = std::env::args().skip(1).collect();
     if let [command, patience] = &words[..] {
         match (command.as_str(), patience.parse()) {
-            (command @ ("fit" | "priority"), Ok(patience)) => return print_lines(command, patience),
+            (command @ ("fit" | "priority" | "guards"), Ok(patience)) => return print_lines(command, patience),
             _ => {}
         }
     }
     let numbers: Vec<u64> = words.iter().filter_map(|a| a.parse().ok()).collect();
-    let ([seed, count], [_, _, program, answers, ranked]) = (&numbers[..], &words[..]) else {
-        eprintln!("usage: second SEED COUNT FIT ANSWERS BY_PRIORITY, or second fit PATIENCE, or second priority PATIENCE");
+    let ([seed, count], [_, _, program, answers, ranked, guarded]) = (&numbers[..], &words[..]) else {
+        eprintln!("usage: second SEED COUNT FIT ANSWERS BY_PRIORITY GUARD_ROWS, or second fit, priority or guards PATIENCE");
         exit(2);
     };
     proved::start(answers);
@@ -284,8 +287,10 @@ fn main() {
         guards.outside,
         guards.kept
     );
-    let (compared, broken) = read_all(&mut random, count, program, |file| files::sheet(file, PATIENCE).ok());
+    let (compared, broken) = read_all(&mut random, count, program, files::file, |file| files::sheet(file, PATIENCE).ok());
     println!("seed {seed}: {compared} files compared ({broken} broken), 0 differences");
-    let (compared, broken) = read_all(&mut random, count, ranked, |file| priority::lines(file, LENGTHS));
+    let (compared, broken) = read_all(&mut random, count, ranked, files::file, |file| priority::lines(file, LENGTHS));
     println!("seed {seed}: {compared} files compared by priority ({broken} broken), 0 differences");
+    let (compared, broken) = read_all(&mut random, count, guarded, guard_files::file, |file| Some(guard_files::lines(file)));
+    println!("seed {seed}: {compared} files of guards compared ({broken} broken), 0 differences");
 }
