@@ -1,6 +1,6 @@
 -- The reader accepts exactly the texts of the layout, and reads what they say: a file says one list of guards at most.
 use mathlib.Core.Bool.{Bool, true, false}
-use mathlib.Core.List.{List, [], _∷_, _++_}
+use mathlib.Core.List.{List, _++_}
 use mathlib.Core.Logic.{_⊎_, inl, inr}
 use mathlib.Core.Path.{_≡_, refl, sym, ap, subst, _∙_}
 use native.Mathlib.Omega.{arith}
@@ -18,7 +18,8 @@ use Rattle.guard_file.specs.declared.steps.State.the-variants.{Broken, H
 use Rattle.guards.specs.declared.Guard.{Guard}
 use Rattle.text.specs.Ascii.{crlf}
 use Rattle.guard_file.proofs.Inside.Builds.{read-append}
-use Rattle.guard_file.proofs.Inside.Standing.{Holds, holds}
+use Rattle.guard_file.proofs.Inside.Keeps.{holds}
+use Rattle.guard_file.proofs.Inside.Standing.{Holds}
 use Rattle.guard_file.proofs.Inside.Texts.{read-text}
 use Rattle.text.proofs.Tests.{by}
 
@@ -37,7 +38,8 @@ clash P e =
     absurd f
 
 -- At the start of a line all that was read is rows and line ends.
-holds-start : (st : State) (values : List ℕ) (gs : List Guard) (l : List ℕ) → isStart st ≡ true → Holds st values gs l → AllLawful gs × (fileText gs ++ crlf ≡ l)
+holds-start : (st : State) (values : List ℕ) (gs : List Guard) (l : List ℕ) → isStart st ≡ true → Holds st values gs l
+    → AllLawful gs × (fileText gs ++ crlf ≡ l)
 unfolding Holds
 holds-start Start values gs l t h = (h .1, h .2)
 holds-start Broken values gs l t h = clash _ t
@@ -78,11 +80,13 @@ module _ (bs : List ℕ) (gs : List Guard) where
   ends : guardsAtEnd (readOver bs) ≡ some gs → Ends bs gs
   ends e =
       by (λ t. isStart (readFrom (readOver bs) crlf .st) ≡ t
-      → pick t (some (readFrom (readOver bs) crlf .guards)) (pick (isStart (readOver bs .st)) (some (readOver bs .guards)) nothing) ≡ some gs → Ends bs gs)
+      → pick t (some (readFrom (readOver bs) crlf .guards)) (pick (isStart (readOver bs .st)) (some (readOver bs .guards)) nothing)
+      ≡ some gs → Ends bs gs)
       (isStart (readFrom (readOver bs) crlf .st))
       (λ _. λ t. λ x. ends-short t x)
       (λ _. λ _. λ y.
-      by (λ t. isStart (readOver bs .st) ≡ t → pick t (some (readOver bs .guards)) nothing ≡ some gs → Ends bs gs) (isStart (readOver bs .st))
+      by (λ t. isStart (readOver bs .st) ≡ t → pick t (some (readOver bs .guards)) nothing ≡ some gs → Ends bs gs)
+      (isStart (readOver bs .st))
       (λ _. λ t. λ x. ends-full t x)
       (λ _. λ t. λ x. never _ gs x)
       refl y)
@@ -90,7 +94,8 @@ module _ (bs : List ℕ) (gs : List Guard) where
 
 pub sound : (bs : List ℕ) (gs : List Guard) → outcome bs ≡ some gs → FileSays bs gs
 sound bs gs e =
-    by (λ t. ltb fileMost (length bs) ≡ t → pick t nothing (guardsAtEnd (readOver bs)) ≡ some gs → FileSays bs gs) (ltb fileMost (length bs))
+    by (λ t. ltb fileMost (length bs) ≡ t → pick t nothing (guardsAtEnd (readOver bs)) ≡ some gs → FileSays bs gs)
+    (ltb fileMost (length bs))
     (λ _. λ t. λ x. never _ gs x)
     (λ _. λ t. λ x.
     let w : Ends bs gs = ends bs gs x in
@@ -99,11 +104,13 @@ sound bs gs e =
 
 -- ---- a text is accepted
 
-accepted : (bs : List ℕ) (gs : List Guard) → AllLawful gs → (bs ≡ fileText gs) ⊎ (bs ≡ fileText gs ++ crlf) → guardsAtEnd (readOver bs) ≡ some gs
+accepted : (bs : List ℕ) (gs : List Guard) → AllLawful gs → (bs ≡ fileText gs) ⊎ (bs ≡ fileText gs ++ crlf)
+    → guardsAtEnd (readOver bs) ≡ some gs
 accepted bs gs s (inl e) =
     let read = read-text gs s in
     ap (λ (x : List ℕ). guardsAtEnd (readOver x)) e
-    ∙ ap (λ (x : State). pick (isStart x) (some (readFrom (readOver (fileText gs)) crlf .guards)) (pick (isStart (readOver (fileText gs) .st)) (some (readOver (fileText gs) .guards)) nothing)) (read .0)
+    ∙ ap (λ (x : State). pick (isStart x) (some (readFrom (readOver (fileText gs)) crlf .guards))
+    (pick (isStart (readOver (fileText gs) .st)) (some (readOver (fileText gs) .guards)) nothing)) (read .0)
     ∙ ap some (read .1)
 accepted bs gs s (inr e) =
     let read = read-text gs s in

@@ -1,10 +1,10 @@
 -- Bytes laid over a page, one text behind the other.
 use mathlib.Core.List.{List, [], _∷_, _++_}
-use mathlib.Core.Path.{_≡_, refl, sym, ap, _∙_}
+use mathlib.Core.Path.{_≡_, sym, ap, _∙_}
 use native.Mathlib.Nat.{add-zero}
 use native.Mathlib.Numerals.{add-one}
 use native.Mathlib.Omega.{arith}
-use Prim.Native.Nat.{ℕ, zero, suc, _+_, _-_, _≤_, _<_}
+use Prim.Native.Nat.{ℕ, suc, _+_, _-_, _≤_, _<_}
 use lib.ListN.{length, set, getD, take, replicate, length-append, length-replicate}
 use lib.Seq.{take-append-seam, take-suc, length-take-le, sets-eq}
 use Rattle.guard_file.specs.Page.{laid, pageMost}

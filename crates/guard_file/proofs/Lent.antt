@@ -1,19 +1,19 @@
 -- What a program writes of a page: so many bytes of it can be lent, and they are the lines.
-use mathlib.Core.Bool.{Bool, true, false}
-use mathlib.Core.List.{List, [], _∷_, _++_}
+use mathlib.Core.Bool.{Bool}
+use mathlib.Core.List.{List, [], _∷_}
 use mathlib.Core.Logic.{_⊎_, inl, inr}
 use mathlib.Core.Path.{_≡_, refl, sym, ap, subst, _∙_}
 use native.Mathlib.Omega.{arith}
 use Prim.Native.Nat.{ℕ, _*_, _≤_, _<_}
 use borrow.Author.Tests.{lt-ltb, eqb-true}
-use lib.Dec.{eqb, ltb}
+use lib.Dec.{eqb}
 use lib.ListN.{length, take, length-append}
 use lib.Seq.{length-sets}
 use Rattle.demand.specs.Tests.{pick}
 use Rattle.demand.proofs.Divide.{le-or-lt}
 use Rattle.guard_file.specs.File.{allHanded}
 use Rattle.guard_file.specs.Inside.Pages.{guardLinesBy}
-use Rattle.guard_file.specs.Page.{guardLines, allLines, rowsHeading, rowsText, refusedText, refusal, firstRefused, guardsMost, refusalOf, Told, linesBy, linesOf, toldOf, FileTold, laid, pageMost, PageSays}
+use Rattle.guard_file.specs.Page.{guardLines, allLines, rowsHeading, rowsText, refusedText, refusal, firstRefused, guardsMost, refusalOf, Told, linesBy, linesOf, FileTold, laid, pageMost, PageSays}
 use Rattle.guard_file.specs.declared.Output.{Output}
 use Rattle.guards.specs.Guards.{interruptCost, timerCost, gapOf}
 use Rattle.guards.specs.declared.Guard.{Guard}
@@ -50,7 +50,8 @@ none-few gs none = go (le-or-lt (length gs) guardsMost)
 
 told-most : (gs : List Guard) → length (linesBy (refusalOf gs) gs) ≤ pageMost
 told-most gs =
-    by (λ t. eqb (refusalOf gs .number) 0 ≡ t → length (pick t (rowsText gs) (refusedText (refusalOf gs .number) (refusalOf gs .place))) ≤ pageMost)
+    by (λ t. eqb (refusalOf gs .number) 0 ≡ t → length
+    (pick t (rowsText gs) (refusedText (refusalOf gs .number) (refusalOf gs .place))) ≤ pageMost)
     (eqb (refusalOf gs .number) 0)
     (λ _. λ t. rows-most gs (none-few gs (eqb-true (refusalOf gs .number) 0 t)))
     (λ _. λ t. omega (arith, refused-most (refusalOf gs .number) (refusalOf gs .place)))

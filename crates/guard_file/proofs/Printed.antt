@@ -1,6 +1,6 @@
 -- Lines fit their space, and are written part by part.
 use mathlib.Core.List.{List, [], _∷_, _++_, append-assoc}
-use mathlib.Core.Path.{_≡_, refl, sym, ap, _∙_}
+use mathlib.Core.Path.{_≡_, sym, ap, _∙_}
 use native.Mathlib.Numerals.{add-one}
 use native.Mathlib.Omega.{arith}
 use Prim.Native.Nat.{ℕ, zero, suc, _+_, _*_, _≤_}
@@ -9,7 +9,7 @@ use Rattle.guard_file.specs.Inside.Pages.{guardLinesBy, linesUpTo}
 use Rattle.guard_file.specs.Page.{rowLine, rowsHeading, refusedText}
 use Rattle.text.specs.Ascii.{ascii, crlf}
 use Rattle.text.specs.Numbers.{comma, fieldsOf}
-use Rattle.text.specs.Text.{textMost, textOf, blankText, putsOf}
+use Rattle.text.specs.Text.{textOf, blankText, putsOf}
 use Rattle.text.specs.declared.Text.{Text}
 use Rattle.text.proofs.Numbers.{fields-most}
 use Rattle.text.proofs.Writes.{puts-append, puts-blank}
@@ -63,31 +63,44 @@ heading-text text e = e ∙ puts-blank rowsHeading (omega arith)
 five : (t : Text) (a b c d e : List ℕ) → putsOf (putsOf (putsOf (putsOf (putsOf t a) b) c) d) e ≡ putsOf t (a ++ (b ++ (c ++ (d ++ e))))
 five t a b c d e = simp (← puts-append, append-assoc)
 
+-- what stands between the two rows of a guard
+abbrev between : List ℕ
+between = comma ∷ (crlf ++ ascii "handler")
+
 module _ (i t p : ℕ) where
-  guard-gathered : putsOf (putsOf (putsOf (putsOf (putsOf blankText (ascii "handler")) (fieldsOf (i ∷ p ∷ []))) (comma ∷ (crlf ++ ascii "handler"))) (fieldsOf (t ∷ p ∷ []))) (comma ∷ crlf)
+  abbrev first : List ℕ
+  first = fieldsOf (i ∷ p ∷ [])
+
+  abbrev second : List ℕ
+  second = fieldsOf (t ∷ p ∷ [])
+
+  guard-gathered : putsOf (putsOf (putsOf (putsOf (putsOf blankText (ascii "handler")) first) between) second) (comma ∷ crlf)
       ≡ putsOf blankText (guardLinesBy i t p)
   unfolding guardLinesBy
   guard-gathered =
-      five blankText (ascii "handler") (fieldsOf (i ∷ p ∷ [])) (comma ∷ (crlf ++ ascii "handler")) (fieldsOf (t ∷ p ∷ [])) (comma ∷ crlf)
-      ∙ ap (putsOf blankText) (joined (fieldsOf (i ∷ p ∷ [])) (fieldsOf (t ∷ p ∷ [])))
+      five blankText (ascii "handler") first between second (comma ∷ crlf) ∙ ap (putsOf blankText) (joined first second)
     where
-      joined : (x y : List ℕ) → ascii "handler" ++ (x ++ ((comma ∷ (crlf ++ ascii "handler")) ++ (y ++ (comma ∷ crlf))))
+      joined : (x y : List ℕ) → ascii "handler" ++ (x ++ (between ++ (y ++ (comma ∷ crlf))))
           ≡ (ascii "handler" ++ x ++ (comma ∷ crlf)) ++ (ascii "handler" ++ y ++ (comma ∷ crlf))
       joined x y = ap (λ (z : List ℕ). ascii "handler" ++ z) (sym (append-assoc x (comma ∷ crlf) (ascii "handler" ++ y ++ (comma ∷ crlf))))
 
-  pub guard-written : {a b c d r : Text} → a ≡ putsOf blankText (ascii "handler") → b ≡ putsOf a (fieldsOf (i ∷ p ∷ []))
-      → c ≡ putsOf b (comma ∷ (crlf ++ ascii "handler")) → d ≡ putsOf c (fieldsOf (t ∷ p ∷ [])) → r ≡ putsOf d (comma ∷ crlf) → r ≡ textOf (guardLinesBy i t p)
+  pub guard-written : {a b c d r : Text} → a ≡ putsOf blankText (ascii "handler") → b ≡ putsOf a first → c ≡ putsOf b between
+      → d ≡ putsOf c second → r ≡ putsOf d (comma ∷ crlf) → r ≡ textOf (guardLinesBy i t p)
   guard-written {r = r} e1 e2 e3 e4 e =
       let all : r ≡ putsOf blankText (guardLinesBy i t p) = cc guard-gathered in
       all ∙ puts-blank (guardLinesBy i t p) (omega (arith, guard-lines-most i t p))
 
+-- the start of a refusal
+abbrev refusing : List ℕ
+refusing = ascii "guards,code,guard" ++ crlf ++ ascii "refused"
+
 module _ (k i : ℕ) where
-  refused-gathered : putsOf (putsOf (putsOf blankText (ascii "guards,code,guard" ++ crlf ++ ascii "refused")) (fieldsOf (k ∷ i ∷ []))) crlf ≡ putsOf blankText (refusedText k i)
+  refused-gathered : putsOf (putsOf (putsOf blankText refusing) (fieldsOf (k ∷ i ∷ []))) crlf ≡ putsOf blankText (refusedText k i)
   unfolding refusedText
   refused-gathered = simp (← puts-append, append-assoc)
 
-  pub refused-written : {a b r : Text} → a ≡ putsOf blankText (ascii "guards,code,guard" ++ crlf ++ ascii "refused") → b ≡ putsOf a (fieldsOf (k ∷ i ∷ []))
-      → r ≡ putsOf b crlf → r ≡ textOf (refusedText k i)
+  pub refused-written : {a b r : Text} → a ≡ putsOf blankText refusing → b ≡ putsOf a (fieldsOf (k ∷ i ∷ [])) → r ≡ putsOf b crlf
+      → r ≡ textOf (refusedText k i)
   refused-written {r = r} e1 e2 e =
       let all : r ≡ putsOf blankText (refusedText k i) = cc refused-gathered in
       all ∙ puts-blank (refusedText k i) (omega (arith, refused-most k i))

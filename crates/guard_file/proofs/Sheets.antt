@@ -1,15 +1,15 @@
 -- The sheet that the reader keeps says what the page says of its guards.
---   Kept s hs   s is the sheet of the guards hs, as they are handed to the call: their count, the first refusal and, where there is none, their rows
-use mathlib.Core.Bool.{Bool, true, false}
+--   Kept s hs   s is the sheet of the guards hs, as they are handed to the call: their count, the first refusal and, where there is none,
+-- their rows
+use mathlib.Core.Bool.{Bool, true}
 use mathlib.Core.List.{List, [], _∷_, _++_, append-nil, append-assoc}
 use mathlib.Core.Logic.{_⊎_, inl, inr}
-use mathlib.Core.Path.{_≡_, refl, sym, ap, subst, _∙_}
+use mathlib.Core.Path.{_≡_, refl, sym, ap, _∙_}
 use native.Mathlib.Omega.{arith}
-use Prim.Native.Nat.{ℕ, zero, suc, _+_, _*_, _≤_, _<_, min}
+use Prim.Native.Nat.{ℕ, zero, suc, _+_, _≤_, _<_, min}
 use borrow.Author.Tests.{lt-ltb, le-ltb, ltb-true, ltb-false, eqb-true, eqb-false, eq-eqb, ne-eqb}
 use lib.Dec.{eqb, ltb}
-use lib.ListN.{length, getD, set, replicate, length-append, length-set, length-replicate}
-use lib.Seq.{getD-set-same, getD-set-other}
+use lib.ListN.{length, length-append, length-replicate}
 use Rattle.demand.specs.Tests.{pick}
 use Rattle.demand.proofs.Divide.{le-or-lt}
 use Rattle.guard_file.specs.File.{handed, allHanded}
@@ -18,73 +18,10 @@ use Rattle.guard_file.specs.Inside.Pages.{guardLinesBy, linesUpTo, refus
 use Rattle.guard_file.specs.Page.{guardLines, allLines, rowsHeading, rowsText, refusedText, Refusal, refusal, firstRefused, refusalOf, linesBy}
 use Rattle.guard_file.specs.declared.reader.Sheet.{Sheet}
 use Rattle.guards.specs.Guards.{guardRefusal, interruptCost, timerCost, gapOf}
-use Rattle.guards.specs.declared.Answer.{Answer}
 use Rattle.guards.specs.declared.Answer.the-variants.{Rows, Refused}
 use Rattle.guards.specs.declared.Guard.{Guard}
 use Rattle.text.proofs.Tests.{by}
-
--- ---- the first refused guard, with one guard more
-
-first-none : (i : ℕ) (hs : List Guard) (g : Guard) → firstRefused i hs .number ≡ 0 → firstRefused i (hs ++ (g ∷ [])) ≡ firstRefused (i + length hs) (g ∷ [])
-first-none i [] g e = let same : i ≡ i + 0 = omega arith in ap (λ (n : ℕ). firstRefused n (g ∷ [])) same
-first-none i (h ∷ hs) g e =
-    by (λ t. eqb (guardRefusal h) 0 ≡ t → pick t (firstRefused (suc i) hs) (refusal (guardRefusal h) i) .number ≡ 0
-    → pick t (firstRefused (suc i) (hs ++ (g ∷ []))) (refusal (guardRefusal h) i) ≡ firstRefused (i + suc (length hs)) (g ∷ []))
-    (eqb (guardRefusal h) 0)
-    (λ _. λ _. λ none.
-    let same : suc i + length hs ≡ i + suc (length hs) = omega arith in
-    first-none (suc i) hs g none ∙ ap (λ (n : ℕ). firstRefused n (g ∷ [])) same)
-    (λ _. λ t. λ none. absurd (eqb-false (guardRefusal h) 0 t none))
-    refl e
-
-first-some : (i : ℕ) (hs : List Guard) (g : Guard) → 0 < firstRefused i hs .number → firstRefused i (hs ++ (g ∷ [])) ≡ firstRefused i hs
-first-some i [] g e = absurd (omega arith)
-first-some i (h ∷ hs) g e =
-    by (λ t. 0 < pick t (firstRefused (suc i) hs) (refusal (guardRefusal h) i) .number
-    → pick t (firstRefused (suc i) (hs ++ (g ∷ []))) (refusal (guardRefusal h) i) ≡ pick t (firstRefused (suc i) hs) (refusal (guardRefusal h) i))
-    (eqb (guardRefusal h) 0)
-    (λ _. λ some. first-some (suc i) hs g some)
-    (λ _. λ some. refl)
-    e
-
-lines-append : (hs : List Guard) (g : Guard) → allLines (hs ++ (g ∷ [])) ≡ allLines hs ++ guardLines g
-lines-append [] g = append-nil (guardLines g)
-lines-append (h ∷ hs) g = ap (λ (z : List ℕ). guardLines h ++ z) (lines-append hs g) ∙ sym (append-assoc (guardLines h) (allLines hs) (guardLines g))
-
--- ---- rows that are stored
-
-module _ (ns : List ℕ) (k i t p : ℕ) where
-  stored-other : (j : ℕ) → j < 3 * k → getD (stored ns k i t p) j 0 ≡ getD ns j 0
-  stored-other j h =
-      getD-set-other (set (set ns (3 * k) i) (3 * k + 1) t) (3 * k + 2) j p 0 (λ e. omega arith)
-      ∙ getD-set-other (set ns (3 * k) i) (3 * k + 1) j t 0 (λ e. omega arith)
-      ∙ getD-set-other ns (3 * k) j i 0 (λ e. omega arith)
-
-  stored-long : length (stored ns k i t p) ≡ length ns
-  stored-long =
-      length-set (set (set ns (3 * k) i) (3 * k + 1) t) (3 * k + 2) p ∙ length-set (set ns (3 * k) i) (3 * k + 1) t ∙ length-set ns (3 * k) i
-
-  -- Those before keep their lines,
-  lines-before : (n : ℕ) → n ≤ k → linesUpTo (stored ns k i t p) n ≡ linesUpTo ns n
-  unfolding linesUpTo
-  lines-before zero h = refl
-  lines-before (suc n) h =
-      rw (lines-before n (omega arith), stored-other (3 * n) (omega arith), stored-other (3 * n + 1) (omega arith), stored-other (3 * n + 2) (omega arith))
-
-  -- and behind them its own stand.
-  lines-stored : 3 * k + 2 < length ns → linesUpTo (stored ns k i t p) (suc k) ≡ linesUpTo ns k ++ guardLinesBy i t p
-  unfolding linesUpTo
-  lines-stored room =
-      let first = set ns (3 * k) i in
-      let second = set first (3 * k + 1) t in
-      let at-0 : getD (stored ns k i t p) (3 * k) 0 ≡ i =
-      getD-set-other second (3 * k + 2) (3 * k) p 0 (λ e. omega arith) ∙ getD-set-other first (3 * k + 1) (3 * k) t 0 (λ e. omega arith)
-      ∙ getD-set-same ns (3 * k) i 0 (omega arith) in
-      let at-1 : getD (stored ns k i t p) (3 * k + 1) 0 ≡ t =
-      getD-set-other second (3 * k + 2) (3 * k + 1) p 0 (λ e. omega arith) ∙ getD-set-same first (3 * k + 1) t 0 (omega (arith, length-set ns (3 * k) i)) in
-      let at-2 : getD (stored ns k i t p) (3 * k + 2) 0 ≡ p =
-      getD-set-same second (3 * k + 2) p 0 (omega (arith, length-set first (3 * k + 1) t, length-set ns (3 * k) i)) in
-      rw (lines-before k (omega arith), at-0, at-1, at-2)
+use Rattle.guard_file.proofs.Stored.{first-none, first-some, lines-append, stored-long, lines-stored}
 
 -- ---- one guard more
 
@@ -166,7 +103,10 @@ module _ (s : Sheet) (hs : List Guard) (g : Guard) (k : Kept s hs) where
         ok = k .ok;
         long = stored-long (s .numbers) (s .count) (interruptCost g) (timerCost g) (gapOf g) ∙ k .long;
         count = omega (arith, at-place, one-more, room);
-        first = λ few. (λ i. refusal (none i) (nowhere i)) ∙ sym (last-told ∙ ap (λ (t : Bool). pick t (refusal 0 0) (refusal (guardRefusal g) (length hs))) (eq-eqb (guardRefusal g) 0 fine));
+        first =
+            λ few. (λ i. refusal (none i) (nowhere i))
+            ∙ sym (last-told ∙ ap (λ (t : Bool). pick t (refusal 0 0) (refusal (guardRefusal g) (length hs)))
+            (eq-eqb (guardRefusal g) 0 fine));
         rows = λ few _. rows-printed;
       }
 
@@ -178,13 +118,15 @@ module _ (s : Sheet) (hs : List Guard) (g : Guard) (k : Kept s hs) where
         count = omega (arith, at-place, one-more, room);
         first = λ few.
             ap (λ (n : ℕ). refusal (guardRefusal g) n) at-place
-            ∙ sym (last-told ∙ ap (λ (t : Bool). pick t (refusal 0 0) (refusal (guardRefusal g) (length hs))) (ne-eqb (guardRefusal g) 0 bad));
+            ∙ sym (last-told ∙ ap (λ (t : Bool). pick t (refusal 0 0) (refusal (guardRefusal g) (length hs)))
+            (ne-eqb (guardRefusal g) 0 bad));
         rows = λ few zero. absurd (bad zero);
       }
 
       answered : Kept (pushedBy s (answerOf g)) more
       answered =
-          by (λ t. eqb (guardRefusal g) 0 ≡ t → Kept (pushedBy s (pick t (Rows (interruptCost g) (timerCost g) (gapOf g)) (Refused (guardRefusal g)))) more)
+          by (λ t. eqb (guardRefusal g) 0 ≡ t → Kept
+          (pushedBy s (pick t (Rows (interruptCost g) (timerCost g) (gapOf g)) (Refused (guardRefusal g)))) more)
           (eqb (guardRefusal g) 0)
           (λ _. λ t. rows-kept (eqb-true (guardRefusal g) 0 t))
           (λ _. λ t. refused-kept (eqb-false (guardRefusal g) 0 t))
@@ -228,17 +170,20 @@ module _ (s : Sheet) (hs : List Guard) (k : Kept s hs) where
 
   refusal-many : guardsHeld < length hs → refusalIn s ≡ refusal 2 0
   refusal-many h =
-      read-whole ∙ ap (λ (t : Bool). pick t (refusal 2 0) (refusal (s .refusal) (s .place))) (lt-ltb guardsHeld (s .count) (omega (arith, k .count, h)))
+      read-whole ∙ ap (λ (t : Bool). pick t (refusal 2 0) (refusal (s .refusal) (s .place)))
+      (lt-ltb guardsHeld (s .count) (omega (arith, k .count, h)))
 
   refusal-few : length hs ≤ guardsHeld → refusalIn s ≡ refusal (s .refusal) (s .place)
   refusal-few h =
-      read-whole ∙ ap (λ (t : Bool). pick t (refusal 2 0) (refusal (s .refusal) (s .place))) (le-ltb guardsHeld (s .count) (omega (arith, k .count, h)))
+      read-whole ∙ ap (λ (t : Bool). pick t (refusal 2 0) (refusal (s .refusal) (s .place)))
+      (le-ltb guardsHeld (s .count) (omega (arith, k .count, h)))
 
   pub kept-refusal : refusalIn s ≡ refusalOf hs
   kept-refusal = go (le-or-lt (length hs) guardsHeld)
     where
       go : (length hs ≤ guardsHeld) ⊎ (guardsHeld < length hs) → refusalIn s ≡ refusalOf hs
-      go (inl h) = refusal-few h ∙ k .first h ∙ sym (ap (λ (t : Bool). pick t (refusal 2 0) (firstRefused 0 hs)) (le-ltb guardsHeld (length hs) h))
+      go (inl h) =
+          refusal-few h ∙ k .first h ∙ sym (ap (λ (t : Bool). pick t (refusal 2 0) (firstRefused 0 hs)) (le-ltb guardsHeld (length hs) h))
       go (inr h) = refusal-many h ∙ sym (ap (λ (t : Bool). pick t (refusal 2 0) (firstRefused 0 hs)) (lt-ltb guardsHeld (length hs) h))
 
   -- Where there is no refusal its rows are theirs.

@@ -14,7 +14,8 @@
 --   SaysNothing bs    the file bs breaks the layout: it says no guards
 --   OneList           a file says one list of guards at most: a statement about FileSays
 --   numberMost        == the greatest number that the call takes
---   handed g          == the guard g as it is handed to the call: a greater number as that one, which is refused just as well, 14 where it is
+--   handed g          == the guard g as it is handed to the call: a greater number as that one, which is refused just as well, 14 where it
+--                        is
 --                        n, else 3
 use mathlib.Core.List.{List, [], _∷_, _++_}
 use mathlib.Core.Logic.{_⊎_}

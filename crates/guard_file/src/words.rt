@@ -1,6 +1,6 @@
 // The fixed words of a file: its header, and the names of its rows.
 ghost use mathlib.Core.Path.{_≡_};
-ghost use lib.ListN.{length, getD};
+ghost use lib.ListN.{getD};
 ghost use Rattle.guard_file.specs.File.{header};
 ghost use Rattle.guard_file.specs.Inside.Steps.{wordOf, given};
 

@@ -3,7 +3,6 @@ use mathlib.Core.Bool.{Bool, true, false}
 use mathlib.Core.List.{List, [], _∷_, _++_}
 use mathlib.Core.Path.{_≡_, refl, sym, ap, _∙_}
 use native.Mathlib.Numerals.{add-one}
-use native.Mathlib.Omega.{arith}
 use Prim.Native.Nat.{ℕ, _+_, _≤_, _<_}
 use borrow.Author.Tests.{lt-ltb, le-ltb}
 use lib.ListN.{length, take, getD}
@@ -38,11 +37,13 @@ module _ (s : Sheet) (st : State) (values : List ℕ) (cr lf : State) where
       → row ≡ noted cr values → r ≡ fed s cr row 10 → r ≡ sheetAtEnd s st values
   at-end-short row r first then e is f =
       f ∙ ap (λ (xs : List ℕ). fed s cr xs 10) is ∙ ap (λ (x : State). fed s x (noted x values) 10) first
-      ∙ sym (ap (λ (b : Bool). pick b (fed s (afterByte st 13) (noted (afterByte st 13) values) 10) (pick (isStart st) s (bare false))) (at-end first then ∙ e))
+      ∙ sym (ap (λ (b : Bool). pick b (fed s (afterByte st 13) (noted (afterByte st 13) values) 10) (pick (isStart st) s (bare false)))
+      (at-end first then ∙ e))
 
   full : cr ≡ afterByte st 13 → lf ≡ afterByte cr 10 → isStart lf ≡ false → sheetAtEnd s st values ≡ pick (isStart st) s (bare false)
   full first then e =
-      ap (λ (b : Bool). pick b (fed s (afterByte st 13) (noted (afterByte st 13) values) 10) (pick (isStart st) s (bare false))) (at-end first then ∙ e)
+      ap (λ (b : Bool). pick b (fed s (afterByte st 13) (noted (afterByte st 13) values) 10) (pick (isStart st) s (bare false)))
+      (at-end first then ∙ e)
 
   pub at-end-full : cr ≡ afterByte st 13 → lf ≡ afterByte cr 10 → isStart lf ≡ false → isStart st ≡ true → s ≡ sheetAtEnd s st values
   at-end-full first then e f = sym (full first then e ∙ ap (λ (b : Bool). pick b s (bare false)) f)
@@ -54,12 +55,15 @@ module _ (s : Sheet) (st : State) (values : List ℕ) (cr lf : State) where
 -- The sheet at the end is that of the guards at the end.
 sheet-at-end : (w : Reading) → sheetAtEnd (sheetOf (w .guards)) (w .st) (w .values) ≡ sheetFor (guardsAtEnd w)
 sheet-at-end w =
-    by (λ t. pick t (fed (sheetOf (w .guards)) (afterByte (w .st) 13) (noted (afterByte (w .st) 13) (w .values)) 10) (pick (isStart (w .st)) (sheetOf (w .guards)) (bare false))
+    by (λ t. pick t (fed (sheetOf (w .guards)) (afterByte (w .st) 13) (noted (afterByte (w .st) 13) (w .values)) 10)
+    (pick (isStart (w .st)) (sheetOf (w .guards)) (bare false))
     ≡ sheetFor (pick t (some (readFrom w crlf .guards)) (pick (isStart (w .st)) (some (w .guards)) nothing)))
     (isStart (afterByte (afterByte (w .st) 13) 10))
     (λ _. sym (grown-append (bare true) (w .guards ++ []) (added (afterByte (w .st) 13) (noted (afterByte (w .st) 13) (w .values)) 10)
-    ∙ ap (λ (x : Sheet). fed x (afterByte (w .st) 13) (noted (afterByte (w .st) 13) (w .values)) 10) (grown-append (bare true) (w .guards) [])))
-    (λ _. by (λ t. pick t (sheetOf (w .guards)) (bare false) ≡ sheetFor (pick t (some (w .guards)) nothing)) (isStart (w .st)) (λ _. refl) (λ _. refl))
+    ∙ ap (λ (x : Sheet). fed x (afterByte (w .st) 13) (noted (afterByte (w .st) 13) (w .values)) 10)
+    (grown-append (bare true) (w .guards) [])))
+    (λ _. by (λ t. pick t (sheetOf (w .guards)) (bare false) ≡ sheetFor (pick t (some (w .guards)) nothing)) (isStart (w .st)) (λ _. refl)
+    (λ _. refl))
 
 -- ---- the reader's loop: before the byte at i it stands where the reading over the first i bytes does
 
@@ -68,7 +72,8 @@ module _ (bs : List ℕ) (i : ℕ) where
   read-take h =
       ap (λ (n : ℕ). readOver (take n bs)) (add-one i) ∙ ap readOver (take-suc bs i 0 h) ∙ read-append unread (take i bs) (getD bs i 0 ∷ [])
 
-  pub loop-state : (st : State) → i < length bs → st ≡ readOver (take i bs) .st → afterByte st (getD bs i 0) ≡ readOver (take (i + 1) bs) .st
+  pub loop-state : (st : State) → i < length bs → st ≡ readOver (take i bs) .st
+      → afterByte st (getD bs i 0) ≡ readOver (take (i + 1) bs) .st
   loop-state st h e = ap (λ (x : State). afterByte x (getD bs i 0)) e ∙ sym (ap (λ (w : Reading). w .st) (read-take h))
 
   pub loop-values : (row : List ℕ) (st : State) (r : List ℕ) → i < length bs → row ≡ readOver (take i bs) .values
@@ -78,7 +83,8 @@ module _ (bs : List ℕ) (i : ℕ) where
       ∙ ap (λ (x : State). noted x (readOver (take i bs) .values)) (e ∙ ap (λ (w : Reading). w .st) (read-take h))
       ∙ sym (ap (λ (w : Reading). w .values) (read-take h))
 
-  pub loop-sheet : (s : Sheet) (st : State) (row : List ℕ) → i < length bs → st ≡ readOver (take i bs) .st → row ≡ readOver (take i bs) .values
+  pub loop-sheet : (s : Sheet) (st : State) (row : List ℕ) → i < length bs → st ≡ readOver (take i bs) .st
+      → row ≡ readOver (take i bs) .values
       → s ≡ sheetOf (readOver (take i bs) .guards) → fed s st row (getD bs i 0) ≡ sheetOf (readOver (take (i + 1) bs) .guards)
   loop-sheet s st row h e is f =
       let before = readOver (take i bs) in

@@ -1,23 +1,21 @@
 -- The reader reads through every text of the layout: behind it a line end leads to the next line, with its guards read.
 --   own kind j v          == field j without its comma
 --   tails kind j vs       == the fields from j on, without the first comma and with the row's CR
---   filled kind j xs vs   == the numbers xs with those of vs noted from field j on, where the kind has them
 use mathlib.Core.Bool.{Bool, true, false}
 use mathlib.Core.List.{List, [], _∷_, _++_, append-nil, append-assoc}
-use mathlib.Core.Logic.{_⊎_, inl, inr}
 use mathlib.Core.Path.{_≡_, refl, sym, ap, _∙_}
 use native.Mathlib.Nat.{pow-suc}
 use native.Mathlib.Numerals.{add-one}
 use native.Mathlib.Omega.{arith}
 use Prim.Native.Nat.{ℕ, zero, suc, _+_, _-_, _*_, _/_, _%_, _^_, _<_, _≤_}
-use lib.Dec.{ltb, eqb}
-use lib.ListN.{length, getD, set, length-set}
-use lib.Seq.{getD-set-same, getD-set-other, set-set}
+use lib.Dec.{ltb}
+use lib.ListN.{length, set}
+use lib.Seq.{set-set}
 use borrow.Author.Tests.{lt-ltb, le-ltb, eq-eqb, ne-eqb}
 use Rattle.demand.specs.Tests.{pick}
 use Rattle.guard_file.specs.File.{digitsMost, Short, header, guardText, body, fileText, AllLawful, Lawful}
 use Rattle.guard_file.specs.Inside.Building.{Reading, done, added, next, readFrom, readOver}
-use Rattle.guard_file.specs.Inside.Steps.{fields, wordOf, given, behind, after, afterByte, noted, guardOf}
+use Rattle.guard_file.specs.Inside.Steps.{fields, wordOf, given, behind, after, afterByte, noted}
 use Rattle.guard_file.specs.declared.steps.State.{State}
 use Rattle.guard_file.specs.declared.steps.State.the-variants.{Head, Start, First, Digits, RowCr}
 use Rattle.guard_file.specs.declared.words.Kind.{Kind}
@@ -29,12 +27,14 @@ use Rattle.text.specs.Numbers.{lastDigits, decimal, comma}
 use Rattle.guard_file.proofs.Inside.Builds.{read-append}
 use Rattle.text.proofs.Numbers.{few, many, digit-is, continues-is}
 use Rattle.text.proofs.Tests.{by-lt}
+use Rattle.guard_file.proofs.Inside.Numbers.{filledAt, filled, filled-long, Shorts, kindOf, valuesOf, noting, shorts, values-nine, guard-back}
 
 abbrev pub at : State → List ℕ → List Guard → Reading
 at s values gs = record { st = s; values = values; guards = gs }
 
 -- A byte that ends no line leaves the guards as they are.
-stays : (f g : State) (values : List ℕ) (gs : List Guard) (b : ℕ) → (b ≡ 10 → ⊥) → afterByte f b ≡ g → next (at f values gs) b ≡ at g (noted g values) gs
+stays : (f g : State) (values : List ℕ) (gs : List Guard) (b : ℕ) → (b ≡ 10 → ⊥) → afterByte f b ≡ g
+    → next (at f values gs) b ≡ at g (noted g values) gs
 stays f g values gs b h e =
     let none : gs ++ added f values b ≡ gs = ap (λ (t : Bool). gs ++ pick t (done f values) []) (ne-eqb b 10 h) ∙ append-nil gs in
     λ i. record { st = e i; values = noted (e i) values; guards = none i }
@@ -60,7 +60,8 @@ module _ (kind : Kind) (j : ℕ) (within : j < fields) (has : given kind j ≡ t
   digit-first : (d : ℕ) (values : List ℕ) → d < 10 → next (at (First kind j) values gs) (48 + d) ≡ at (Digits kind j d) (set values j d) gs
   digit-first d values h =
       let worth : 48 + d - 48 ≡ d = omega arith in
-      stays (First kind j) (Digits kind j d) values gs (48 + d) (λ x. omega arith) (simp (has, digit-is (48 + d) (omega arith) (omega arith), worth))
+      stays (First kind j) (Digits kind j d) values gs (48 + d) (λ x. omega arith)
+      (simp (has, digit-is (48 + d) (omega arith) (omega arith), worth))
       ∙ ap (λ (z : List ℕ). at (Digits kind j d) z gs) (note-is d values)
 
   digit-then : (v d : ℕ) (values : List ℕ) → 0 < v → v < 10 ^ digitsMost / 10 → d < 10
@@ -86,7 +87,8 @@ module _ (kind : Kind) (j : ℕ) (within : j < fields) (has : given kind j ≡ t
       ∙ digit-then (n / 10) (n % 10) values (omega arith) (omega arith) (omega arith)
       ∙ ap (λ (x : ℕ). at (Digits kind j x) (set values j x) gs) (omega arith))
 
-  read-decimal : (n : ℕ) (values : List ℕ) → Short n → readFrom (at (First kind j) values gs) (decimal n) ≡ at (Digits kind j n) (set values j n) gs
+  read-decimal : (n : ℕ) (values : List ℕ) → Short n
+      → readFrom (at (First kind j) values gs) (decimal n) ≡ at (Digits kind j n) (set values j n) gs
   unfolding decimal
   read-decimal n values h = read-digits 19 n values (omega arith) h
 
@@ -94,9 +96,6 @@ module _ (kind : Kind) (j : ℕ) (within : j < fields) (has : given kind j ≡ t
 
 abbrev own : Kind → ℕ → ℕ → List ℕ
 own kind j v = pick (given kind j) (decimal v) []
-
-abbrev filledAt : Kind → ℕ → ℕ → List ℕ → List ℕ
-filledAt kind j v values = pick (given kind j) (set values j v) values
 
 -- The byte behind a field is no line end, and leads to no number.
 behind-goes : (kind : Kind) (f : State) (j : ℕ) (values : List ℕ) (gs : List Guard) → afterByte f (behind j) ≡ after kind j
@@ -117,7 +116,8 @@ read-field : (kind : Kind) (j v : ℕ) (values : List ℕ) (gs : List Guard) →
 read-field kind j v values gs h few = go (given kind j) refl
   where
     go : (t : Bool) → given kind j ≡ t
-        → readFrom (at (First kind j) values gs) (pick t (decimal v) [] ++ (behind j ∷ [])) ≡ at (after kind j) (pick t (set values j v) values) gs
+        → readFrom (at (First kind j) values gs) (pick t (decimal v) [] ++ (behind j ∷ []))
+        ≡ at (after kind j) (pick t (set values j v) values) gs
     go true has =
         read-append (at (First kind j) values gs) (decimal v) (behind j ∷ [])
         ∙ ap (λ (w : Reading). next w (behind j)) (read-decimal kind j h has gs v values few)
@@ -131,14 +131,6 @@ tails kind j [] = []
 tails kind j (v ∷ []) = own kind j v ++ (13 ∷ [])
 tails kind j (v ∷ (w ∷ vs)) = own kind j v ++ (comma ∷ tails kind (suc j) (w ∷ vs))
 
-abbrev filled : Kind → ℕ → List ℕ → List ℕ → List ℕ
-filled kind j values [] = values
-filled kind j values (v ∷ vs) = filled kind (suc j) (filledAt kind j v values) vs
-
-abbrev Shorts : List ℕ → Type 0
-Shorts [] = Unit
-Shorts (v ∷ vs) = Short v × Shorts vs
-
 read-tails : (kind : Kind) (j : ℕ) (values : List ℕ) (gs : List Guard) (vs : List ℕ) → 1 ≤ length vs → j + length vs ≡ fields → Shorts vs
     → readFrom (at (First kind j) values gs) (tails kind j vs) ≡ at (RowCr kind) (filled kind j values vs) gs
 read-tails kind j values gs [] some all short = absurd (omega arith)
@@ -147,82 +139,14 @@ read-tails kind j values gs (v ∷ []) some all short =
     rw last at (read-field kind j v values gs (omega arith) (short .0))
 read-tails kind j values gs (v ∷ (w ∷ vs)) some all short =
     let inner : ltb j 8 ≡ true = lt-ltb j 8 (omega arith) in
-    let here : readFrom (at (First kind j) values gs) (own kind j v ++ (comma ∷ [])) ≡ at (First kind (suc j)) (filledAt kind j v values) gs =
-    (rw inner at (read-field kind j v values gs (omega arith) (short .0))) ∙ ap (λ (n : ℕ). at (First kind n) (filledAt kind j v values) gs) (add-one j) in
+    let here : readFrom (at (First kind j) values gs) (own kind j v ++ (comma ∷ []))
+    ≡ at (First kind (suc j)) (filledAt kind j v values) gs =
+    (rw inner at (read-field kind j v values gs (omega arith) (short .0)))
+    ∙ ap (λ (n : ℕ). at (First kind n) (filledAt kind j v values) gs) (add-one j) in
     ap (readFrom (at (First kind j) values gs)) (sym (append-assoc (own kind j v) (comma ∷ []) (tails kind (suc j) (w ∷ vs))))
     ∙ read-append (at (First kind j) values gs) (own kind j v ++ (comma ∷ [])) (tails kind (suc j) (w ∷ vs))
     ∙ ap (λ (x : Reading). readFrom x (tails kind (suc j) (w ∷ vs))) here
     ∙ read-tails kind (suc j) (filledAt kind j v values) gs (w ∷ vs) (omega arith) (omega arith) (short .1)
-
--- ---- the numbers of a row are noted
-
-filled-at-long : (kind : Kind) (j v : ℕ) (values : List ℕ) → length (filledAt kind j v values) ≡ length values
-filled-at-long kind j v values = go (given kind j)
-  where
-    go : (t : Bool) → length (pick t (set values j v) values) ≡ length values
-    go true = length-set values j v
-    go false = refl
-
-filled-long : (kind : Kind) (j : ℕ) (values vs : List ℕ) → length (filled kind j values vs) ≡ length values
-filled-long kind j values [] = refl
-filled-long kind j values (v ∷ vs) = filled-long kind (suc j) (filledAt kind j v values) vs ∙ filled-at-long kind j v values
-
-filled-below : (kind : Kind) (j : ℕ) (values vs : List ℕ) (i : ℕ) → i < j → getD (filled kind j values vs) i 0 ≡ getD values i 0
-filled-below kind j values [] i h = refl
-filled-below kind j values (v ∷ vs) i h = filled-below kind (suc j) (filledAt kind j v values) vs i (omega arith) ∙ go (given kind j)
-  where
-    go : (t : Bool) → getD (pick t (set values j v) values) i 0 ≡ getD values i 0
-    go true = getD-set-other values j i v 0 (λ e. omega arith)
-    go false = refl
-
-filled-here : (kind : Kind) (j : ℕ) (values vs : List ℕ) (k : ℕ) → given kind (j + k) ≡ true → k < length vs → j + length vs ≤ length values
-    → getD (filled kind j values vs) (j + k) 0 ≡ getD vs k 0
-filled-here kind j values [] k has h room = absurd (omega arith)
-filled-here kind j values (v ∷ vs) zero has h room =
-    let e : j + 0 ≡ j = omega arith in
-    let has' : given kind j ≡ true = rw e at has in
-    rw e
-    (filled-below kind (suc j) (filledAt kind j v values) vs j (omega arith)
-    ∙ ap (λ (t : Bool). getD (pick t (set values j v) values) j 0) has'
-    ∙ getD-set-same values j v 0 (omega arith))
-filled-here kind j values (v ∷ vs) (suc k) has h room =
-    let e : j + suc k ≡ suc j + k = omega arith in
-    rw e (filled-here kind (suc j) (filledAt kind j v values) vs k (rw e at has) (omega arith) (omega (arith, filled-at-long kind j v values)))
-
--- ---- a guard
-
-abbrev kindOf : Guard → Kind
-kindOf (Strict int flip setup work expire gap) = Single
-kindOf (Bursty n int flip work expire count clear gap) = Burst
-
-abbrev valuesOf : Guard → List ℕ
-valuesOf (Strict int flip setup work expire gap) = 0 ∷ int ∷ flip ∷ setup ∷ work ∷ expire ∷ 0 ∷ 0 ∷ gap ∷ []
-valuesOf (Bursty n int flip work expire count clear gap) = n ∷ int ∷ flip ∷ 0 ∷ work ∷ expire ∷ count ∷ clear ∷ gap ∷ []
-
-abbrev noting : Guard → List ℕ → List ℕ
-noting g values = filled (kindOf g) 0 values (valuesOf g)
-
-shorts : (g : Guard) → Lawful g → Shorts (valuesOf g)
-shorts (Strict int flip setup work expire gap) (a, (b, (c, (d, (e, (f, (x, (y, (z, w))))))))) =
-    (omega arith, (b, (c, (d, (e, (f, (omega arith, (omega arith, (z, tt)))))))))
-shorts (Bursty n int flip work expire count clear gap) (a, (b, (c, (d, (e, (f, (x, (y, (z, w))))))))) =
-    (a, (b, (c, (omega arith, (e, (f, (x, (y, (z, tt)))))))))
-
-values-nine : (g : Guard) → length (valuesOf g) ≡ fields
-values-nine (Strict int flip setup work expire gap) = refl
-values-nine (Bursty n int flip work expire count clear gap) = refl
-
-guard-back : (g : Guard) (values : List ℕ) → length values ≡ fields → guardOf (kindOf g) (noting g values) ≡ g
-guard-back (Strict int flip setup work expire gap) values long =
-    let vs = valuesOf (Strict int flip setup work expire gap) in
-    let is : (k : ℕ) → given Single (0 + k) ≡ true → k < 9 → getD (filled Single 0 values vs) (0 + k) 0 ≡ getD vs k 0 =
-    λ k has h. filled-here Single 0 values vs k has h (omega arith) in
-    λ i. Strict (is 1 refl (omega arith) i) (is 2 refl (omega arith) i) (is 3 refl (omega arith) i) (is 4 refl (omega arith) i) (is 5 refl (omega arith) i) (is 8 refl (omega arith) i)
-guard-back (Bursty n int flip work expire count clear gap) values long =
-    let vs = valuesOf (Bursty n int flip work expire count clear gap) in
-    let is : (k : ℕ) → given Burst (0 + k) ≡ true → k < 9 → getD (filled Burst 0 values vs) (0 + k) 0 ≡ getD vs k 0 =
-    λ k has h. filled-here Burst 0 values vs k has h (omega arith) in
-    λ i. Bursty (is 0 refl (omega arith) i) (is 1 refl (omega arith) i) (is 2 refl (omega arith) i) (is 4 refl (omega arith) i) (is 5 refl (omega arith) i) (is 6 refl (omega arith) i) (is 7 refl (omega arith) i) (is 8 refl (omega arith) i)
 
 -- The text of its row and the CR, as it is read.
 row-tails : (g : Guard) → guardText g ++ (13 ∷ []) ≡ wordOf (kindOf g) ++ (comma ∷ tails (kindOf g) 0 (valuesOf g))
@@ -248,7 +172,8 @@ noting-all [] values = values
 noting-all (g ∷ gs) values = noting-all gs (noting g values)
 
 -- Where a line end leads to the next line with gs read, it does so behind more rows too.
-read-body : (es gs : List Guard) (values : List ℕ) (w : Reading) → AllLawful es → length values ≡ fields → readFrom w crlf ≡ at Start values gs
+read-body : (es gs : List Guard) (values : List ℕ) (w : Reading) → AllLawful es → length values ≡ fields
+    → readFrom w crlf ≡ at Start values gs
     → readFrom (readFrom w (body es)) crlf ≡ at Start (noting-all es values) (gs ++ es)
 read-body [] gs values w s long h = rw append-nil h
 read-body (e ∷ es) gs values w s long h =
@@ -262,7 +187,10 @@ read-body (e ∷ es) gs values w s long h =
     ∙ read-body es (gs ++ (e ∷ [])) (noting e values) row (s .1) kept (read-guard e values gs (s .0) long)
     ∙ ap (at Start (noting-all es (noting e values))) (append-assoc gs (e ∷ []) es)
 
-pub read-text : (es : List Guard) → AllLawful es → (readFrom (readOver (fileText es)) crlf .st ≡ Start) × (readFrom (readOver (fileText es)) crlf .guards ≡ es)
+pub read-text : (es : List Guard) → AllLawful es
+    → (readFrom (readOver (fileText es)) crlf .st ≡ Start) × (readFrom (readOver (fileText es)) crlf .guards ≡ es)
 read-text es s =
-    let whole = read-body es [] (0 ∷ 0 ∷ 0 ∷ 0 ∷ 0 ∷ 0 ∷ 0 ∷ 0 ∷ 0 ∷ []) (at (Head (length header)) (0 ∷ 0 ∷ 0 ∷ 0 ∷ 0 ∷ 0 ∷ 0 ∷ 0 ∷ 0 ∷ []) []) s refl refl in
+    let whole =
+    read-body es [] (0 ∷ 0 ∷ 0 ∷ 0 ∷ 0 ∷ 0 ∷ 0 ∷ 0 ∷ 0 ∷ [])
+    (at (Head (length header)) (0 ∷ 0 ∷ 0 ∷ 0 ∷ 0 ∷ 0 ∷ 0 ∷ 0 ∷ 0 ∷ []) []) s refl refl in
     (ap (λ (w : Reading). w .st) whole, ap (λ (w : Reading). w .guards) whole)

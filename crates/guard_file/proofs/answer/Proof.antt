@@ -11,7 +11,8 @@ lines-requires c κs = search needs
 
 returns : tie.Need-returns
 returns c =
-    page-says (c .before .before .before .before .args .input .now) (c .before .before .before .before .args .page .now) _ _ (c .before .read .result) (c .before .read .ensures) (c .lines .ensures)
+    page-says (c .before .before .before .before .args .input .now) (c .before .before .before .before .args .page .now) _ _
+    (c .before .read .result) (c .before .read .ensures) (c .lines .ensures)
 
 pub answer-spec : {M : Type 1} → statement M
 answer-spec = tie.close (tie.spec read-requires lines-requires returns)

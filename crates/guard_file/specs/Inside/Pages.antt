@@ -2,8 +2,7 @@
 --   guardLinesBy i t p   == the two rows of a guard, by both costs and the period
 --   linesUpTo ns n       == those of the first n guards, whose numbers are ns
 --   Written s page page' out   page' has the lines of the sheet s over page, and out is their length and the number of the refusal
-use mathlib.Core.Bool.{Bool}
-use mathlib.Core.List.{List, [], _∷_, _++_}
+use mathlib.Core.List.{List, [], _++_}
 use mathlib.Core.Path.{_≡_}
 use Prim.Native.Nat.{ℕ, zero, suc, _+_, _*_}
 use lib.Dec.{eqb, ltb}
@@ -28,7 +27,8 @@ refusalIn s =
 
 abbrev pub linesIn : Sheet → List ℕ
 linesIn s =
-    pick (eqb (refusalIn s .number) 0) (rowsHeading ++ linesUpTo (s .numbers) (s .count)) (refusedText (refusalIn s .number) (refusalIn s .place))
+    pick (eqb (refusalIn s .number) 0) (rowsHeading ++ linesUpTo (s .numbers) (s .count))
+    (refusedText (refusalIn s .number) (refusalIn s .place))
 
 pub record Written (s : Sheet) (page page' : List ℕ) (out : Output) : Type 0 where
   pub written : page' ≡ laid page 0 (linesIn s)

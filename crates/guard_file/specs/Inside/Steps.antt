@@ -81,4 +81,5 @@ noted (RowCr kind) values = values
 abbrev pub guardOf : Kind → List ℕ → Guard
 guardOf Single values = Strict (getD values 1 0) (getD values 2 0) (getD values 3 0) (getD values 4 0) (getD values 5 0) (getD values 8 0)
 guardOf Burst values =
-    Bursty (getD values 0 0) (getD values 1 0) (getD values 2 0) (getD values 4 0) (getD values 5 0) (getD values 6 0) (getD values 7 0) (getD values 8 0)
+    Bursty (getD values 0 0) (getD values 1 0) (getD values 2 0) (getD values 4 0) (getD values 5 0) (getD values 6 0) (getD values 7 0)
+    (getD values 8 0)

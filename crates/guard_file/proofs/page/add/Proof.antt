@@ -1,7 +1,6 @@
-use native.Mathlib.Numerals.{add-one}
 use native.Mathlib.Omega.{arith}
 use Prim.Native.Nat.{_+_, _-_, _≤_}
-use lib.ListN.{length, take, getD, set}
+use lib.ListN.{take, getD, set}
 use Rattle.guard_file.specs.Page.{laid}
 use Rattle.guard_file.proofs.Laid.{laid-next}
 use mathlib.Core.List.{List}

@@ -64,8 +64,17 @@ add-requires c κs =
     let i = getD (x .t3) (3 * k) 0 in
     let t = getD (x .t3) (3 * k + 1) 0 in
     let p = getD (x .t3) (3 * k + 2) 0 in
-    text-room (guardLinesBy i t p) (c .before .guard-lines .result) (loop .end) (c .before .guard-lines .ensures) (omega (arith, guard-lines-most i t p))
-    (omega (arith, guard-lines-most i t p, lines-most (x .t3) k, loop .inv .1, c .before .before .before .before .pre .0, c .before .before .before .before .pre .1))
+    text-room (guardLinesBy i t p) (c .before .guard-lines .result) (loop .end) (c .before .guard-lines .ensures)
+    (omega (arith, guard-lines-most i t p))
+    (omega (
+      arith,
+      guard-lines-most i t p,
+      lines-most
+          (x .t3) k,
+      loop .inv .1,
+      c .before .before .before .before .pre .0,
+      c .before .before .before .before .pre .1,
+    ))
 
 add-k : tie.Need-add-k Inv-loop μ-loop
 add-k c = omega (arith, c .before .before .before .before .before .pre .1)
@@ -90,8 +99,11 @@ returns c =
     let x = c .before .before .args in
     let loop = c .before .loop in
     let same : loop .k ≡ x .n = omega arith in
-    let lines = linesUpTo (x .t3) in
-    (loop .inv .1 ∙ ap (λ (k : ℕ). x .at + length (lines k)) same, loop .inv .2 ∙ ap (λ (k : ℕ). laid (x .page .now) (x .at) (lines k)) same)
+    let lines = linesUpTo (x .t3) in (
+      loop .inv .1 ∙ ap (λ (k : ℕ). x .at + length (lines k)) same,
+      loop .inv .2 ∙ ap
+          (λ (k : ℕ). laid (x .page .now) (x .at) (lines k)) same,
+    )
 
 pub all-lines-spec : {M : Type 1} → statement M
 all-lines-spec =

@@ -35,7 +35,12 @@ puts-requires-2 c κs = search needs
 
 returns : tie.Need-returns
 returns c =
-    guard-written (c .before .before .before .before .before .before .before .before .before .before .args .interrupt) (c .before .before .before .before .before .before .before .before .before .before .args .timer) (c .before .before .before .before .before .before .before .before .before .before .args .period) (c .before .before .before .before .before .before .before .before .of .ensures) (c .before .before .before .before .before .before .fields .ensures) (c .before .before .before .before .puts .ensures) (c .before .before .fields2 .ensures) (c .puts2 .ensures)
+    guard-written (c .before .before .before .before .before .before .before .before .before .before .args .interrupt)
+    (c .before .before .before .before .before .before .before .before .before .before .args .timer)
+    (c .before .before .before .before .before .before .before .before .before .before .args .period)
+    (c .before .before .before .before .before .before .before .before .of .ensures)
+    (c .before .before .before .before .before .before .fields .ensures) (c .before .before .before .before .puts .ensures)
+    (c .before .before .fields2 .ensures) (c .puts2 .ensures)
 
 pub guard-lines-spec : {M : Type 1} → statement M
 guard-lines-spec =

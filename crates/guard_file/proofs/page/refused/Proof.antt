@@ -23,7 +23,9 @@ puts-requires c κs = search needs
 
 returns : tie.Need-returns
 returns c =
-    refused-written (c .before .before .before .before .before .before .args .number) (c .before .before .before .before .before .before .args .place) (c .before .before .before .before .of .ensures) (c .before .before .fields .ensures) (c .puts .ensures)
+    refused-written (c .before .before .before .before .before .before .args .number)
+    (c .before .before .before .before .before .before .args .place) (c .before .before .before .before .of .ensures)
+    (c .before .before .fields .ensures) (c .puts .ensures)
 
 pub refused-spec : {M : Type 1} → statement M
 refused-spec =

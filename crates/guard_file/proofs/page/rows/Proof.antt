@@ -18,12 +18,23 @@ add-requires : tie.Need-add-requires
 add-requires c κs = text-room rowsHeading (c .of .result) 0 (heading-text _ (c .of .ensures)) (omega arith) (omega arith)
 
 all-lines-requires : tie.Need-all-lines-requires
-all-lines-requires c κs =
-    (omega (arith, heading-ends (c .before .before .before .before .before .args .page .now) _ (c .before .add .result) (c .before .before .of .result) (c .before .before .of .ensures) (c .before .add .ensures)), c .before .before .before .before .before .pre)
+all-lines-requires c κs = (
+  omega (
+    arith,
+    heading-ends (c .before .before .before .before .before .args .page .now) _ (c .before .add .result)
+        (c .before .before .of .result) (c .before .before .of .ensures)
+        (c .before .add .ensures),
+  ),
+  c .before .before .before .before .before .pre,
+)
 
 returns : tie.Need-returns
 returns c =
-    rows-laid (c .before .before .before .before .before .before .args .page .now) _ _ (c .before .before .add .result) _ (c .before .before .before .of .result) (linesUpTo (c .before .before .before .before .before .before .args .numbers) (c .before .before .before .before .before .before .args .n)) (c .before .before .before .of .ensures) (c .before .before .add .ensures) (c .all-lines .ensures)
+    rows-laid (c .before .before .before .before .before .before .args .page .now) _ _ (c .before .before .add .result) _
+    (c .before .before .before .of .result)
+    (linesUpTo (c .before .before .before .before .before .before .args .numbers)
+    (c .before .before .before .before .before .before .args .n)) (c .before .before .before .of .ensures) (c .before .before .add .ensures)
+    (c .all-lines .ensures)
 
 pub rows-spec : {M : Type 1} → statement M
 rows-spec =

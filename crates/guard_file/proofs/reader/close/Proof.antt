@@ -1,6 +1,5 @@
 use Rattle.guard_file.proofs.Inside.Builds.{at-end-short, at-end-full, at-end-broken}
-use mathlib.Core.Path.{_≡_, sym, ap, _∙_}
-use mathlib.Core.Bool.{Bool}
+use mathlib.Core.Path.{sym, _∙_}
 use borrow.Author.Needs.{needs}
 use Rattle.guard_file.proofs.reader.close.Statement.{statement}
 use Rattle.guard_file.proofs.reader.close.Tie as tie
@@ -28,15 +27,28 @@ bare-requires c κs = search needs
 
 returns : tie.Need-returns
 returns c =
-    at-end-short (c .before .before .before .before .before .before .args .sheet) (c .before .before .before .before .before .before .args .st) (c .before .before .before .before .before .before .args .row .values) _ _ _ _ (c .before .before .before .before .before .step .ensures) (c .before .before .before .before .step2 .ensures) (sym (c .before .before .before .is-start .ensures) ∙ c .before .before .if1 .taken) (c .before .note .ensures) (c .feed .ensures)
+    at-end-short (c .before .before .before .before .before .before .args .sheet)
+    (c .before .before .before .before .before .before .args .st)
+    (c .before .before .before .before .before .before .args .row .values) _ _ _ _
+    (c .before .before .before .before .before .step .ensures) (c .before .before .before .before .step2 .ensures)
+    (sym (c .before .before .before .is-start .ensures) ∙ c .before .before .if1 .taken) (c .before .note .ensures) (c .feed .ensures)
 
 returns-2 : tie.Need-returns-2
 returns-2 c =
-    at-end-full (c .before .before .before .before .before .before .args .sheet) (c .before .before .before .before .before .before .args .st) (c .before .before .before .before .before .before .args .row .values) _ _ (c .before .before .before .before .before .step .ensures) (c .before .before .before .before .step2 .ensures) (sym (c .before .before .before .is-start .ensures) ∙ c .before .before .if1 .left) (sym (c .before .is-start2 .ensures) ∙ c .if2 .taken)
+    at-end-full (c .before .before .before .before .before .before .args .sheet)
+    (c .before .before .before .before .before .before .args .st) (c .before .before .before .before .before .before .args .row .values) _ _
+    (c .before .before .before .before .before .step .ensures) (c .before .before .before .before .step2 .ensures)
+    (sym (c .before .before .before .is-start .ensures) ∙ c .before .before .if1 .left)
+    (sym (c .before .is-start2 .ensures) ∙ c .if2 .taken)
 
 returns-3 : tie.Need-returns-3
 returns-3 c =
-    at-end-broken (c .before .before .before .before .before .before .before .args .sheet) (c .before .before .before .before .before .before .before .args .st) (c .before .before .before .before .before .before .before .args .row .values) _ _ _ (c .before .before .before .before .before .before .step .ensures) (c .before .before .before .before .before .step2 .ensures) (sym (c .before .before .before .before .is-start .ensures) ∙ c .before .before .before .if1 .left) (sym (c .before .before .is-start2 .ensures) ∙ c .before .if2 .left) (c .bare .ensures)
+    at-end-broken (c .before .before .before .before .before .before .before .args .sheet)
+    (c .before .before .before .before .before .before .before .args .st)
+    (c .before .before .before .before .before .before .before .args .row .values) _ _ _
+    (c .before .before .before .before .before .before .step .ensures) (c .before .before .before .before .before .step2 .ensures)
+    (sym (c .before .before .before .before .is-start .ensures) ∙ c .before .before .before .if1 .left)
+    (sym (c .before .before .is-start2 .ensures) ∙ c .before .if2 .left) (c .bare .ensures)
 
 pub close-spec : {M : Type 1} → statement M
 close-spec =

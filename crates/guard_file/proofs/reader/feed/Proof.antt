@@ -36,7 +36,8 @@ push-requires c κs = search needs
 
 returns : tie.Need-returns
 returns c =
-    simp (c .before .before .before .st .given .1, eq-eqb _ _ (c .before .before .before .before .before .if1 .taken)) (c .push .ensures ∙ ap (pushed (c .before .before .before .before .before .before .args .sheet)) (c .before .guard-of .ensures))
+    simp (c .before .before .before .st .given .1, eq-eqb _ _ (c .before .before .before .before .before .if1 .taken))
+    (c .push .ensures ∙ ap (pushed (c .before .before .before .before .before .before .args .sheet)) (c .before .guard-of .ensures))
 
 returns-2 : tie.Need-returns-2
 returns-2 c =

@@ -94,11 +94,29 @@ capped-requires-14 c κs = search needs
 
 returns : tie.Need-returns
 returns c =
-    rw (c .before .before .before .before .before .before .enum-told .given .1, c .before .before .before .before .before .capped .ensures, c .before .before .before .before .capped2 .ensures, c .before .before .before .capped3 .ensures, c .before .before .capped4 .ensures, c .before .capped5 .ensures, c .capped6 .ensures)
+    rw (
+      c .before .before .before .before .before .before .enum-told .given .1,
+      c .before .before .before .before .before .capped .ensures,
+      c .before .before .before .before .capped2 .ensures,
+      c .before .before .before .capped3 .ensures,
+      c .before .before .capped4 .ensures,
+      c .before .capped5 .ensures,
+      c .capped6 .ensures,
+    )
 
 returns-2 : tie.Need-returns-2
 returns-2 c =
-    rw (c .before .before .before .before .before .before .before .before .enum-told2 .given .1, c .before .before .before .before .before .before .before .capped7 .ensures, c .before .before .before .before .before .before .capped8 .ensures, c .before .before .before .before .before .capped9 .ensures, c .before .before .before .before .capped10 .ensures, c .before .before .before .capped11 .ensures, c .before .before .capped12 .ensures, c .before .capped13 .ensures, c .capped14 .ensures)
+    rw (
+      c .before .before .before .before .before .before .before .before .enum-told2 .given .1,
+      c .before .before .before .before .before .before .before .capped7 .ensures,
+      c .before .before .before .before .before .before .capped8 .ensures,
+      c .before .before .before .before .before .capped9 .ensures,
+      c .before .before .before .before .capped10 .ensures,
+      c .before .before .before .capped11 .ensures,
+      c .before .before .capped12 .ensures,
+      c .before .capped13 .ensures,
+      c .capped14 .ensures,
+    )
 
 pub guard-of-spec : {M : Type 1} → statement M
 guard-of-spec =

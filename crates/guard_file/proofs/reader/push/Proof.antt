@@ -39,11 +39,24 @@ enum-known-number c = search needs
 
 returns-3 : tie.Need-returns-3
 returns-3 c =
-    rw (lt-ltb _ _ (c .before .before .before .before .before .before .before .before .before .before .if1 .left), le-ltb _ _ (c .before .before .before .before .before .before .before .before .before .if2 .left), sym (c .before .before .before .before .before .before .before .before .rows .ensures .answer) ∙ c .before .before .before .before .before .before .interrupt .given .1, c .store .ensures, c .before .before .before .wide .ensures .0, c .before .before .wide2 .ensures .0, c .before .wide3 .ensures .0)
+    rw (
+      lt-ltb _ _ (c .before .before .before .before .before .before .before .before .before .before .if1 .left),
+      le-ltb _ _ (c .before .before .before .before .before .before .before .before .before .if2 .left),
+      sym (c .before .before .before .before .before .before .before .before .rows .ensures .answer)
+          ∙ c .before .before .before .before .before .before .interrupt .given .1,
+      c .store .ensures,
+      c .before .before .before .wide .ensures .0,
+      c .before .before .wide2 .ensures .0,
+      c .before .wide3 .ensures .0,
+    )
 
 returns-4 : tie.Need-returns-4
 returns-4 c =
-    rw (lt-ltb _ _ (c .before .before .before .before .before .if1 .left), le-ltb _ _ (c .before .before .before .before .if2 .left), sym (c .before .before .before .rows .ensures .answer) ∙ c .before .number .given .1)
+    rw (
+      lt-ltb _ _ (c .before .before .before .before .before .if1 .left),
+      le-ltb _ _ (c .before .before .before .before .if2 .left),
+      sym (c .before .before .before .rows .ensures .answer) ∙ c .before .number .given .1,
+    )
 
 pub push-spec : {M : Type 1} → statement M
 push-spec =

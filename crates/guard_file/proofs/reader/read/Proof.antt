@@ -64,7 +64,8 @@ returns-2 : tie.Need-returns-2 Inv-loop μ-loop
 returns-2 c =
     let bytes = c .before .before .before .before .before .before .args .bytes .now in
     let turn = c .before .before .loop in
-    c .close .ensures ∙ loop-ends bytes (turn .i) _ _ _ (turn .inv .1) (c .before .loop-test .left) (turn .inv .2) (turn .inv .3) (turn .inv .4)
+    c .close .ensures
+    ∙ loop-ends bytes (turn .i) _ _ _ (turn .inv .1) (c .before .loop-test .left) (turn .inv .2) (turn .inv .3) (turn .inv .4)
 
 pub read-spec : {M : Type 1} → statement M
 read-spec =

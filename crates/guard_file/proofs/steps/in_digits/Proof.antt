@@ -21,11 +21,20 @@ returns c = simp (eq-eqb _ _ (c .before .if1 .taken ∙ c .before .before .behin
 
 returns-2 : tie.Need-returns-2
 returns-2 c =
-    simp (ne-eqb _ _ (rw (c .before .before .before .before .behind .ensures) at (c .before .before .before .if1 .left)), sym (c .before .before .continues .ensures) ∙ c .before .if2 .taken, c .extended .ensures)
+    simp (
+      ne-eqb _ _ (rw (c .before .before .before .before .behind .ensures) at (c .before .before .before .if1 .left)),
+      sym
+          (c .before .before .continues .ensures) ∙ c .before .if2 .taken,
+      c .extended .ensures,
+    )
 
 returns-3 : tie.Need-returns-3
 returns-3 c =
-    simp (ne-eqb _ _ (rw (c .before .before .before .behind .ensures) at (c .before .before .if1 .left)), sym (c .before .continues .ensures) ∙ c .if2 .left)
+    simp (
+      ne-eqb _ _ (rw (c .before .before .before .behind .ensures) at (c .before .before .if1 .left)),
+      sym
+          (c .before .continues .ensures) ∙ c .if2 .left,
+    )
 
 pub in-digits-spec : {M : Type 1} → statement M
 in-digits-spec =

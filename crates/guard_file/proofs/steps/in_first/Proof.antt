@@ -24,19 +24,37 @@ after-requires c κs = search needs
 
 returns : tie.Need-returns
 returns c =
-    simp (sym (c .before .before .before .before .given .ensures) ∙ c .before .before .before .if1 .taken, sym (c .before .before .is-digit .ensures) ∙ c .before .if2 .taken, c .worth .ensures)
+    simp (
+      sym (c .before .before .before .before .given .ensures) ∙ c .before .before .before .if1 .taken,
+      sym
+          (c .before .before .is-digit .ensures) ∙ c .before .if2 .taken,
+      c .worth .ensures,
+    )
 
 returns-2 : tie.Need-returns-2
 returns-2 c =
-    simp (sym (c .before .before .before .given .ensures) ∙ c .before .before .if1 .taken, sym (c .before .is-digit .ensures) ∙ c .if2 .left)
+    simp (
+      sym (c .before .before .before .given .ensures) ∙ c .before .before .if1 .taken,
+      sym
+          (c .before .is-digit .ensures) ∙ c .if2 .left,
+    )
 
 returns-3 : tie.Need-returns-3
 returns-3 c =
-    simp (sym (c .before .before .before .before .given .ensures) ∙ c .before .before .before .if1 .left, eq-eqb _ _ (c .before .if3 .taken ∙ c .before .before .behind .ensures), c .after .ensures)
+    simp (
+      sym (c .before .before .before .before .given .ensures) ∙ c .before .before .before .if1 .left,
+      eq-eqb _ _
+          (c .before .if3 .taken ∙ c .before .before .behind .ensures),
+      c .after .ensures,
+    )
 
 returns-4 : tie.Need-returns-4
 returns-4 c =
-    simp (sym (c .before .before .before .given .ensures) ∙ c .before .before .if1 .left, ne-eqb _ _ (rw (c .before .behind .ensures) at (c .if3 .left)))
+    simp (
+      sym (c .before .before .before .given .ensures) ∙ c .before .before .if1 .left,
+      ne-eqb _ _
+          (rw (c .before .behind .ensures) at (c .if3 .left)),
+    )
 
 pub in-first-spec : {M : Type 1} → statement M
 in-first-spec =
