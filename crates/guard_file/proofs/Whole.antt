@@ -138,7 +138,7 @@ module _ (bs page page' : List ℕ) (out : Output) where
 
 -- ---- and no other does
 
-told-unique : (bs : List ℕ) (a b : Told) → FileTold bs a → FileTold bs b → a ≡ b
+pub told-unique : (bs : List ℕ) (a b : Told) → FileTold bs a → FileTold bs b → a ≡ b
 told-unique bs a b (inl x) (inl y) =
     x .2 ∙ ap (λ (gs : List Guard). toldOf (allHanded gs)) (says-unique bs (x .0) (y .0) (x .1) (y .1)) ∙ sym (y .2)
 told-unique bs a b (inl x) (inr y) = absurd (y .0 (x .0) (x .1))
