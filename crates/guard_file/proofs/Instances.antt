@@ -6,9 +6,9 @@ use mathlib.Core.Path.{_≡_, refl, sym, ap, _∙_}
 use native.Mathlib.Omega.{arith}
 use Prim.Native.Nat.{ℕ}
 use Rattle.demand.specs.Tests.{firstRefusal}
-use Rattle.guard_file.specs.File.{header, allHanded, FileSays, SaysNothing}
+use Rattle.guard_file.specs.File.{header, FileSays, SaysNothing}
 use Rattle.guard_file.specs.Inside.Building.{nothing, outcome}
-use Rattle.guard_file.specs.Page.{refusedText, Told, toldOf, broken, linesOf, PageSays}
+use Rattle.guard_file.specs.Page.{Told, toldOf, linesOf, PageSays}
 use Rattle.guard_file.specs.declared.Output.{Output}
 use Rattle.guards.specs.Guards.{guardRefusal, guardTests}
 use Rattle.guards.specs.declared.Guard.{Guard}
@@ -37,8 +37,8 @@ says = record {
 
 -- Its lines, whatever page they are written on, and no refusal.
 module _ (page page' : List ℕ) (out : Output) (p : PageSays mixedFile page page' out) where
-  only : p .told ≡ toldOf (allHanded guards)
-  only = told-unique mixedFile (p .told) (toldOf (allHanded guards)) (p .figures) (inl (guards, says, refl))
+  only : p .told ≡ toldOf guards
+  only = told-unique mixedFile (p .told) (toldOf guards) (p .figures) (inl (guards, says, refl))
 
   pub mixed-lines : linesOf (p .told)
       ≡ ascii "kind,cost,period,deadline" ++ crlf ++ ascii "handler,689,2667," ++ crlf ++ ascii "handler,84,2667," ++ crlf

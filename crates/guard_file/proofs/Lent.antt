@@ -11,7 +11,6 @@ use lib.ListN.{length, take, length-append}
 use lib.Seq.{length-sets}
 use Rattle.demand.specs.Tests.{pick}
 use Rattle.demand.proofs.Divide.{le-or-lt}
-use Rattle.guard_file.specs.File.{allHanded}
 use Rattle.guard_file.specs.Inside.Pages.{guardLinesBy}
 use Rattle.guard_file.specs.Page.{guardLines, allLines, rowsHeading, rowsText, refusedText, refusal, firstRefused, guardsMost, refusalOf, Told, linesBy, linesOf, FileTold, laid, pageMost, PageSays}
 use Rattle.guard_file.specs.declared.Output.{Output}
@@ -58,7 +57,7 @@ told-most gs =
     refl
 
 file-most : (bs : List ℕ) (told : Told) → FileTold bs told → length (linesOf told) ≤ pageMost
-file-most bs told (inl x) = subst (λ (z : Told). length (linesOf z) ≤ pageMost) (sym (x .2)) (told-most (allHanded (x .0)))
+file-most bs told (inl x) = subst (λ (z : Told). length (linesOf z) ≤ pageMost) (sym (x .2)) (told-most (x .0))
 file-most bs told (inr x) = subst (λ (z : Told). length (linesOf z) ≤ pageMost) (sym (x .1)) (omega (arith, refused-most 12 0))
 
 pub page-lent : (bs page page' : List ℕ) (out : Output) → length page ≡ pageMost → PageSays bs page page' out

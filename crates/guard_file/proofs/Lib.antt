@@ -5,6 +5,7 @@ pub mod Laid
 pub mod Printed
 pub mod Stored
 pub mod Sheets
+pub mod Handed
 pub mod Whole
 pub mod Lent
 pub mod Instances

@@ -12,7 +12,7 @@ use lib.Dec.{eqb, ltb}
 use lib.ListN.{length, length-append, length-replicate}
 use Rattle.demand.specs.Tests.{pick}
 use Rattle.demand.proofs.Divide.{le-or-lt}
-use Rattle.guard_file.specs.File.{handed, allHanded}
+use Rattle.guard_file.specs.Inside.Handed.{handed, allHanded}
 use Rattle.guard_file.specs.Inside.Building.{guardsHeld, bare, stored, answerOf, counted, pushedBy, pushed, grown, sheetOf}
 use Rattle.guard_file.specs.Inside.Pages.{guardLinesBy, linesUpTo, refusalIn, linesIn}
 use Rattle.guard_file.specs.Page.{guardLines, allLines, rowsHeading, rowsText, refusedText, Refusal, refusal, firstRefused, refusalOf, linesBy}

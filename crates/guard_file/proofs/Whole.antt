@@ -9,18 +9,18 @@ use borrow.Author.Tests.{eq-eqb, ne-eqb, lt-ltb, le-ltb}
 use lib.Dec.{eqb, ltb}
 use lib.ListN.{length, take, length-append}
 use Rattle.demand.specs.Tests.{pick}
-use Rattle.guard_file.specs.File.{allHanded}
+use Rattle.guard_file.specs.Inside.Handed.{allHanded}
 use Rattle.guard_file.specs.Inside.Building.{guardsHeld, sheetOf, Outcome, nothing, some, outcome, sheetFor}
 use Rattle.guard_file.specs.Inside.Pages.{linesUpTo, refusalIn, linesIn, Written}
 use Rattle.guard_file.specs.Page.{rowsHeading, refusedText, Refusal, refusal, Told, linesOf, toldOf, broken, FileTold, laid, PageSays, OnePage}
 use Rattle.guard_file.specs.declared.Output.{Output}
 use Rattle.guard_file.specs.declared.reader.Sheet.{Sheet}
-use Rattle.guards.specs.declared.Guard.{Guard}
 use Rattle.text.specs.Text.{textOf, blankText, putsOf}
 use Rattle.text.specs.declared.Text.{Text}
 use Rattle.guard_file.proofs.File.{never, sound, complete, says-unique}
 use Rattle.guard_file.proofs.Laid.{text-len, text-bytes, laid-more}
 use Rattle.guard_file.proofs.Printed.{heading-text}
+use Rattle.guard_file.proofs.Handed.{refusal-handed, lines-handed}
 use Rattle.guard_file.proofs.Sheets.{sheet-kept, kept-refusal, kept-lines}
 
 -- ---- on the page
@@ -124,13 +124,13 @@ module _ (bs page page' : List ℕ) (out : Output) where
   told-of (some gs) e w =
       let hs = allHanded gs in
       let kept = sheet-kept gs in
-      let lines : linesIn (sheetOf gs) ≡ linesOf (toldOf hs) = kept-lines (sheetOf gs) hs kept in
+      let lines : linesIn (sheetOf gs) ≡ linesOf (toldOf gs) = kept-lines (sheetOf gs) hs kept ∙ lines-handed gs in
       record {
-        told = toldOf hs;
+        told = toldOf gs;
         figures = inl (gs, sound bs gs e, refl);
         written = w .written ∙ ap (laid page 0) lines;
         counted = w .counted ∙ ap length lines;
-        refusal = w .refusal ∙ ap (λ (r : Refusal). r .number) (kept-refusal (sheetOf gs) hs kept);
+        refusal = w .refusal ∙ ap (λ (r : Refusal). r .number) (kept-refusal (sheetOf gs) hs kept ∙ refusal-handed gs);
       }
 
   pub page-says : (s : Sheet) → s ≡ sheetFor (outcome bs) → Written s page page' out → PageSays bs page page' out
@@ -140,7 +140,7 @@ module _ (bs page page' : List ℕ) (out : Output) where
 
 pub told-unique : (bs : List ℕ) (a b : Told) → FileTold bs a → FileTold bs b → a ≡ b
 told-unique bs a b (inl x) (inl y) =
-    x .2 ∙ ap (λ (gs : List Guard). toldOf (allHanded gs)) (says-unique bs (x .0) (y .0) (x .1) (y .1)) ∙ sym (y .2)
+    x .2 ∙ ap toldOf (says-unique bs (x .0) (y .0) (x .1) (y .1)) ∙ sym (y .2)
 told-unique bs a b (inl x) (inr y) = absurd (y .0 (x .0) (x .1))
 told-unique bs a b (inr x) (inl y) = absurd (x .0 (y .0) (y .1))
 told-unique bs a b (inr x) (inr y) = x .1 ∙ sym (y .1)

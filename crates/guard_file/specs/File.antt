@@ -3,7 +3,7 @@
 --   Field             == a field of a row: empty, or a number
 --   fieldText f       == the field as text: a comma, and the number where there is one
 --   nameOf g          == the first field of a row: `strict` or `bursty`
---   fieldsOf g        == the others, in the header's order: those that a guard of its kind lacks are empty
+--   rowFields g       == the others, in the header's order: those that a guard of its kind lacks are empty
 --   guardText g       == the row of the guard g
 --   fileText gs       == the header, then each row on a line of its own: CRLF between lines
 --   fileMost          == the most bytes of a file
@@ -13,14 +13,10 @@
 --   FileSays bs gs    the file bs says the guards gs: at most 4,096 bytes, their text, with or without the last CRLF
 --   SaysNothing bs    the file bs breaks the layout: it says no guards
 --   OneList           a file says one list of guards at most: a statement about FileSays
---   numberMost        == the greatest number that the call takes
---   handed g          == the guard g as it is handed to the call: a greater number as that one, which is refused just as well, 14 where it
---                        is
---                        n, else 3
 use mathlib.Core.List.{List, [], _∷_, _++_}
 use mathlib.Core.Logic.{_⊎_}
 use mathlib.Core.Path.{_≡_}
-use Prim.Native.Nat.{ℕ, _^_, _≤_, _<_, min}
+use Prim.Native.Nat.{ℕ, _^_, _≤_, _<_}
 use lib.ListN.{length}
 use Rattle.guards.specs.declared.Guard.{Guard}
 use Rattle.guards.specs.declared.Guard.the-variants.{Strict, Bursty}
@@ -49,10 +45,10 @@ nameOf (Strict int flip setup work expire gap) = ascii "strict"
 nameOf (Bursty n int flip work expire count clear gap) = ascii "bursty"
 
 -- n, int, flip, setup, work, expire, count, clear, gap
-abbrev pub fieldsOf : Guard → List Field
-fieldsOf (Strict int flip setup work expire gap) =
+abbrev pub rowFields : Guard → List Field
+rowFields (Strict int flip setup work expire gap) =
     empty ∷ number int ∷ number flip ∷ number setup ∷ number work ∷ number expire ∷ empty ∷ empty ∷ number gap ∷ []
-fieldsOf (Bursty n int flip work expire count clear gap) =
+rowFields (Bursty n int flip work expire count clear gap) =
     number n ∷ number int ∷ number flip ∷ empty ∷ number work ∷ number expire ∷ number count ∷ number clear ∷ number gap ∷ []
 
 abbrev pub fieldsText : List Field → List ℕ
@@ -60,7 +56,7 @@ fieldsText [] = []
 fieldsText (f ∷ fs) = fieldText f ++ fieldsText fs
 
 abbrev pub guardText : Guard → List ℕ
-guardText g = nameOf g ++ fieldsText (fieldsOf g)
+guardText g = nameOf g ++ fieldsText (rowFields g)
 
 abbrev pub body : List Guard → List ℕ
 body [] = []
@@ -81,7 +77,7 @@ AllShort [] = Unit
 AllShort (f ∷ fs) = ShortField f × AllShort fs
 
 abbrev pub Lawful : Guard → Type 0
-Lawful g = AllShort (fieldsOf g)
+Lawful g = AllShort (rowFields g)
 
 abbrev pub AllLawful : List Guard → Type 0
 AllLawful [] = Unit
@@ -97,18 +93,3 @@ SaysNothing bs = (gs : List Guard) → FileSays bs gs → ⊥
 
 abbrev pub OneList : Type 0
 OneList = (bs : List ℕ) (gs hs : List Guard) → FileSays bs gs → FileSays bs hs → gs ≡ hs
-
-abbrev pub numberMost : ℕ
-numberMost = 4294967295
-
-abbrev pub cap : ℕ → ℕ
-cap n = min n numberMost
-
-abbrev pub handed : Guard → Guard
-handed (Strict int flip setup work expire gap) = Strict (cap int) (cap flip) (cap setup) (cap work) (cap expire) (cap gap)
-handed (Bursty n int flip work expire count clear gap) =
-    Bursty (cap n) (cap int) (cap flip) (cap work) (cap expire) (cap count) (cap clear) (cap gap)
-
-abbrev pub allHanded : List Guard → List Guard
-allHanded [] = []
-allHanded (g ∷ gs) = handed g ∷ allHanded gs

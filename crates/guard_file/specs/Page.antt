@@ -8,7 +8,7 @@
 --   firstRefused i gs      == that of the first refused guard of gs, whose first is at place i
 --   guardsMost             == the most guards of a file: each makes two handler rows, of which a table has 16 at most
 --   refusalOf gs           == 2 where there are more guards, else that of the first refused guard
---   Told                   == what a file comes to: a refusal, and guards as they are handed to the call
+--   Told                   == what a file comes to: a refusal, and its guards
 --   linesOf told           == its lines: the rows, or the refusal
 --   FileTold bs told       told is what the file bs comes to: 12 before all where it breaks the layout
 --   pageMost               == the bytes of a page
@@ -23,7 +23,7 @@ use lib.Dec.{eqb, ltb}
 use lib.ListN.{length}
 use lib.Seq.{sets}
 use Rattle.demand.specs.Tests.{pick}
-use Rattle.guard_file.specs.File.{FileSays, SaysNothing, allHanded}
+use Rattle.guard_file.specs.File.{FileSays, SaysNothing}
 use Rattle.guard_file.specs.declared.Output.{Output}
 use Rattle.guards.specs.Guards.{guardRefusal, interruptCost, timerCost, gapOf}
 use Rattle.guards.specs.declared.Guard.{Guard}
@@ -89,7 +89,7 @@ abbrev pub broken : Told
 broken = record { refused = refusal 12 0; guards = [] }
 
 abbrev pub FileTold : List ℕ → Told → Type 0
-FileTold bs told = ((gs : List Guard) × FileSays bs gs × (told ≡ toldOf (allHanded gs))) ⊎ (SaysNothing bs × (told ≡ broken))
+FileTold bs told = ((gs : List Guard) × FileSays bs gs × (told ≡ toldOf gs)) ⊎ (SaysNothing bs × (told ≡ broken))
 
 abbrev pub pageMost : ℕ
 pageMost = 1024

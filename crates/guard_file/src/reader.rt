@@ -1,8 +1,8 @@
 // The reader: bytes in, the rows of up to 8 guards and the first refusal among them out, or the word that the file breaks the layout.
 ghost use mathlib.Core.Path.{_≡_};
 ghost use Prim.Native.Nat.{_<_, min};
-ghost use Rattle.guard_file.specs.File.{numberMost, handed};
 ghost use Rattle.guard_file.specs.Inside.Building.{guardsHeld, bare, stored, pushed, fed, sheetAtEnd, sheetFor, outcome};
+ghost use Rattle.guard_file.specs.Inside.Handed.{numberMost, handed};
 ghost use Rattle.guard_file.specs.Inside.Steps.{guardOf};
 use crate::FILE_MOST;
 use crate::steps;

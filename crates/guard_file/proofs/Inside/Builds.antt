@@ -8,7 +8,8 @@ use borrow.Author.Tests.{lt-ltb, le-ltb}
 use lib.ListN.{length, take, getD}
 use lib.Seq.{take-suc, take-all}
 use Rattle.demand.specs.Tests.{pick}
-use Rattle.guard_file.specs.File.{fileMost, handed}
+use Rattle.guard_file.specs.File.{fileMost}
+use Rattle.guard_file.specs.Inside.Handed.{handed}
 use Rattle.guard_file.specs.Inside.Building.{bare, pushed, grown, sheetOf, added, fed, sheetAtEnd, Reading, next, readFrom, readOver, unread, nothing, some, guardsAtEnd, outcome, sheetFor}
 use Rattle.guard_file.specs.Inside.Steps.{afterByte, isStart, noted}
 use Rattle.guard_file.specs.declared.reader.Sheet.{Sheet}

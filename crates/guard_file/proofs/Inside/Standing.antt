@@ -49,7 +49,8 @@ unfolding Holds
 to-broken values gs l = tt
 
 module _ (values : List ℕ) (gs : List Guard) (l : List ℕ) (b : ℕ) where
-  pub to-head : (k : ℕ) → Holds (Head k) values gs l → k < length header → b ≡ getD header k 0 → Holds (Head (k + 1)) values gs (l ++ (b ∷ []))
+  pub to-head : (k : ℕ) → Holds (Head k) values gs l → k < length header → b ≡ getD header k 0
+      → Holds (Head (k + 1)) values gs (l ++ (b ∷ []))
   unfolding Holds
   to-head k h t e = (h .0, h .1, omega arith, take-next header k b t e ∙ ap (λ (z : List ℕ). z ++ (b ∷ [])) (h .3))
 
@@ -85,7 +86,8 @@ module _ (values : List ℕ) (gs : List Guard) (l : List ℕ) (b : ℕ) where
             (ap (λ (z : List ℕ). crlf ++ z) (take-next (wordOf kind) k b short e)) (h .3),
       )
 
-  pub to-first : (kind : Kind) (k : ℕ) → Holds (Name kind k) values gs l → 6 ≤ k → b ≡ comma → Holds (First kind 0) values gs (l ++ (b ∷ []))
+  pub to-first : (kind : Kind) (k : ℕ) → Holds (Name kind k) values gs l → 6 ≤ k → b ≡ comma
+      → Holds (First kind 0) values gs (l ++ (b ∷ []))
   unfolding Holds
   to-first kind k h t e =
       let whole : take k (wordOf kind) ≡ wordOf kind = take-all k (wordOf kind) (omega (arith, word-length kind)) in

@@ -21,7 +21,8 @@ use Prim.Native.Nat.{ℕ, _+_, _*_}
 use lib.Dec.{eqb, ltb}
 use lib.ListN.{length, set, replicate}
 use Rattle.demand.specs.Tests.{pick}
-use Rattle.guard_file.specs.File.{fileMost, handed}
+use Rattle.guard_file.specs.File.{fileMost}
+use Rattle.guard_file.specs.Inside.Handed.{handed}
 use Rattle.guard_file.specs.Inside.Steps.{fields, afterByte, isStart, noted, guardOf}
 use Rattle.guard_file.specs.declared.reader.Sheet.{Sheet}
 use Rattle.guard_file.specs.declared.steps.State.{State}
