@@ -1,0 +1,5 @@
+pub mod Tabled
+pub mod Order
+pub mod Alike
+pub mod Held
+pub mod Filled
