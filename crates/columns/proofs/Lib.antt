@@ -3,3 +3,4 @@ pub mod Order
 pub mod Alike
 pub mod Held
 pub mod Filled
+pub mod Lent
