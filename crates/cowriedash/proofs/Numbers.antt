@@ -29,9 +29,9 @@ pub margin-told-unique : (t h : List ℕ) (l j k : ℕ) (y z : ℤ) (m n : ℕ) 
     → (j ≡ k) × (y ≡ z) × (m ≡ n)
 margin-told-unique t h l j k y z m n p q =
     let same = margin-unique (askedRefusal t h l) (tasksOf t) (handlersOf h) l (p .answer) (q .answer) (p .says) (q .says) in (
-      p .code ∙ ap (λ (a : MarginAnswer). marginFigures a .code) same ∙ sym (q .code),
-      p .ticks ∙ ap (λ (a : MarginAnswer). marginFigures a .ticks) same ∙ sym (q .ticks),
-      p .left ∙ ap (λ (a : MarginAnswer). marginFigures a .left) same ∙ sym (q .left),
+      p .figured .code ∙ ap (λ (a : MarginAnswer). marginFigures a .code) same ∙ sym (q .figured .code),
+      p .figured .ticks ∙ ap (λ (a : MarginAnswer). marginFigures a .ticks) same ∙ sym (q .figured .ticks),
+      p .figured .left ∙ ap (λ (a : MarginAnswer). marginFigures a .left) same ∙ sym (q .figured .left),
     )
 
 -- What is laid out of a demand are its figures.

@@ -2,6 +2,7 @@
 --   demandNumbers r    == the refusal's number or 0, then the ticks
 --   handlerNumbers r   == the same, then the work left over (02, M-106)
 --   DemandFigured, HandlerFigured   those are the figures of the answer
+--   MarginFigured r code ticks left   so are these of a margin
 --   VerdictTold t h out, HandlerTold t h l out, TaskTold t h l out, MarginTold t h l code ticks left
 --                      the numbers are those of an answer that the promise allows
 use mathlib.Core.List.{List, [], _∷_}
@@ -58,9 +59,12 @@ pub record HandlerTold (t h : List ℕ) (l : ℕ) (out : List ℕ) : Type 0 wher
 abbrev pub TaskTold : List ℕ → List ℕ → ℕ → List ℕ → Type 0
 TaskTold t h l out = DemandTold (askedRefusal t h l) (due (tasksOf t) l) out
 
-pub record MarginTold (t h : List ℕ) (l number : ℕ) (out : ℤ) (over : ℕ) : Type 0 where
-  pub answer : MarginAnswer
-  pub says : MarginSays (askedRefusal t h l) (tasksOf t) (handlersOf h) l answer
+pub record MarginFigured (answer : MarginAnswer) (number : ℕ) (out : ℤ) (over : ℕ) : Type 0 where
   pub code : number ≡ marginFigures answer .code
   pub ticks : out ≡ marginFigures answer .ticks
   pub left : over ≡ marginFigures answer .left
+
+pub record MarginTold (t h : List ℕ) (l number : ℕ) (out : ℤ) (over : ℕ) : Type 0 where
+  pub answer : MarginAnswer
+  pub says : MarginSays (askedRefusal t h l) (tasksOf t) (handlersOf h) l answer
+  pub figured : MarginFigured answer number out over

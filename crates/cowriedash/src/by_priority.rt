@@ -22,7 +22,7 @@ pub extern "C" fn cowriedash_responses(
 }
 
 // The refusal's number, 0 for none.
-fn number_of(answer: Answer) -> u32
+pub fn number_of(answer: Answer) -> u32
     ensures { λ r. ⌜ r ≡ number answer ⌝ }
 {
     match answer {

@@ -1,8 +1,9 @@
 // The licensees' library: the demands and the verdict for C, with numbers and slices only at the boundary.
 pub mod by_priority;
 pub mod guard_rows;
+pub mod held_by_column;
 
-ghost use Rattle.cowriedash.specs.Numbers.{demandNumbers, handlerNumbers, VerdictTold, HandlerTold, TaskTold, MarginTold};
+ghost use Rattle.cowriedash.specs.Numbers.{demandNumbers, handlerNumbers, VerdictTold, HandlerTold, TaskTold, MarginFigured, MarginTold};
 ghost use mathlib.Core.Path.{_≡_};
 use demand::DemandAnswer;
 use demand::HandlerAnswer;
@@ -66,18 +67,10 @@ pub extern "C" fn cowriedash_task_demand(
     *out = demand_numbers(answer);
 }
 
-// The margin at l: the refusal's number or 0, the ticks into out and the handlers' work left over into left.
-#[no_mangle]
-pub extern "C" fn cowriedash_margin(
-    tasks: &[u32],
-    handlers: &[u32],
-    l: u64,
-    out: &mut i64,
-    left: &mut u64,
-) -> u32
-    ensures { λ r. ⌜ MarginTold (now (tasks .entry)) (now (handlers .entry)) l r (now (out .exit)) (now (left .exit)) ⌝ }
+// What is told of a margin: the refusal's number or 0, the ticks into out and the handlers' work left over into left.
+fn tell(answer: MarginAnswer, out: &mut i64, left: &mut u64) -> u32
+    ensures { λ r. ⌜ MarginFigured answer r (now (out .exit)) (now (left .exit)) ⌝ }
 {
-    let answer = demand::margin(tasks, handlers, l);
     match answer {
         MarginAnswer::Ticks { ticks, left: over } => {
             *out = ticks;
@@ -90,4 +83,19 @@ pub extern "C" fn cowriedash_margin(
             number
         }
     }
+}
+
+// The margin at l: the refusal's number or 0, the ticks into out and the handlers' work left over into left.
+#[no_mangle]
+pub extern "C" fn cowriedash_margin(
+    tasks: &[u32],
+    handlers: &[u32],
+    l: u64,
+    out: &mut i64,
+    left: &mut u64,
+) -> u32
+    ensures { λ r. ⌜ MarginTold (now (tasks .entry)) (now (handlers .entry)) l r (now (out .exit)) (now (left .exit)) ⌝ }
+{
+    let answer = demand::margin(tasks, handlers, l);
+    tell(answer, out, left)
 }

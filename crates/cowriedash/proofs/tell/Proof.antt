@@ -4,11 +4,8 @@ use mir.ValLaws.{toZ-ofZ}
 use Rattle.demand.specs.Answers.{marginFigures}
 use Rattle.demand.specs.declared.MarginAnswer.{MarginAnswer}
 use borrow.Author.Needs.{needs}
-use Rattle.cowriedash.proofs.cowriedash_margin.Statement.{statement}
-use Rattle.cowriedash.proofs.cowriedash_margin.Tie as tie
-
-margin-requires : tie.Need-margin-requires
-margin-requires c κs = search needs
+use Rattle.cowriedash.proofs.tell.Statement.{statement}
+use Rattle.cowriedash.proofs.tell.Tie as tie
 
 enum-known-answer : tie.Need-enum-known-answer
 enum-known-answer c = search needs
@@ -21,8 +18,6 @@ unfolding marginFigures
 returns c =
     let answer = c .before .answer .given .1 in
     record {
-      answer = c .before .before .before .margin .result;
-      says = c .before .before .before .margin .ensures;
       code = ap (λ (a : MarginAnswer). marginFigures a .code) (sym answer);
       ticks = toZ-ofZ w64 (c .before .answer .given .0 .0) (record { sfits = c .known-told .given .0 .1 }) ∙ ap (λ (a : MarginAnswer). marginFigures a .ticks) (sym answer);
       left = ap (λ (a : MarginAnswer). marginFigures a .left) (sym answer);
@@ -33,13 +28,10 @@ unfolding marginFigures
 returns-2 c =
     let answer = c .before .answer2 .given .1 in
     record {
-      answer = c .before .before .before .margin .result;
-      says = c .before .before .before .margin .ensures;
       code = ap (λ (a : MarginAnswer). marginFigures a .code) (sym answer);
       ticks = ap (λ (a : MarginAnswer). marginFigures a .ticks) (sym answer);
       left = ap (λ (a : MarginAnswer). marginFigures a .left) (sym answer);
     }
 
-pub cowriedash-margin-spec : {M : Type 1} → statement M
-cowriedash-margin-spec =
-    tie.close (tie.spec margin-requires enum-known-answer enum-known-answer-2 returns returns-2)
+pub tell-spec : {M : Type 1} → statement M
+tell-spec = tie.close (tie.spec enum-known-answer enum-known-answer-2 returns returns-2)
