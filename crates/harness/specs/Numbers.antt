@@ -9,6 +9,7 @@
 --   runIn t h next due owed fs   == the run that lent arrays tell
 --   leftBy fs s            == the figures after a step: those of a refused one keep the run's five as they were
 --   keyBy ranked           == the key by which a step chooses: the period where it is by priority, else the deadline
+--   orderBy by kind s      == the list s, or its row order where it is held by column (02, M-111)
 --   FreshLaid, StepLaid    what a call leaves, of an answer that the promise of `fresh` or of a step by this key allows
 --   FreshLaidUnique, StepLaidUnique   and so nothing else
 --   RefusedKeeps           a refused step leaves the numbers of the run exactly as they were
@@ -18,7 +19,9 @@ use mathlib.Core.Path.{_≡_}
 use Prim.Native.Nat.{ℕ, _+_, _-_, _<_}
 use lib.Dec.{eqb}
 use lib.ListN.{getD}
+use Rattle.columns.specs.Order.{rowOrder}
 use Rattle.demand.specs.Tests.{pick}
+use Rattle.demand.specs.declared.table.Kind.{Kind}
 use Rattle.machine.specs.Live.{Live, dueOf, periodOf}
 use Rattle.scheduler.specs.Promise.{Who, nobody, handler, task, Figures, figures, rowRan, startFigures, FreshSays, StepSays}
 use Rattle.scheduler.specs.Runs.{runOf}
@@ -114,6 +117,11 @@ pub record FreshLaid (tasks handlers : List ℕ) (t h next due owed fs : List �
   pub due-laid : due ≡ fresh .run .due
   pub owed-laid : owed ≡ fresh .run .owed
   pub figures-laid : fs ≡ runNumbers (fresh .run) ++ refusedNumbers (startFigures (fresh .answer))
+
+-- a list as it is lent, or held by column
+abbrev pub orderBy : Bool → Kind → List ℕ → List ℕ
+orderBy true kind s = rowOrder kind s
+orderBy false kind s = s
 
 abbrev pub keyBy : Bool → Live → ℕ
 keyBy true x = periodOf x

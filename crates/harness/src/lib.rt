@@ -5,15 +5,18 @@ mod numbers;
 
 ghost use mathlib.Core.Path.{_≡_};
 ghost use lib.ListN.{replicate};
-ghost use Rattle.harness.specs.Numbers.{runIn, keyBy, FreshLaid, StepLaid};
+ghost use Rattle.harness.specs.Numbers.{runIn, keyBy, orderBy, FreshLaid, StepLaid};
+ghost use Rattle.columns.specs.Order.{rowOrder};
+ghost use Rattle.demand.specs.declared.table.Kind.the-variants.{Task, Handler};
 ghost use Rattle.machine.specs.Live.{dueOf, periodOf};
-ghost use Rattle.scheduler.specs.Promise.{StepSays};
+ghost use Rattle.scheduler.specs.Promise.{FreshSays, StepSays};
 ghost use Rattle.scheduler.specs.Books.{busyBy};
 ghost use Rattle.scheduler.specs.Start.{freshOf};
 ghost use Rattle.scheduler.specs.Steps.{stepOf};
 use crate::numbers::FIGURES;
 use crate::numbers::TASKS_MOST;
 use scheduler::Answer;
+use scheduler::Fresh;
 use scheduler::Late;
 use scheduler::Ran;
 use scheduler::Run;
@@ -21,6 +24,48 @@ use scheduler::Stepped;
 use scheduler::sizes::HANDLER_NUMBERS;
 use scheduler::sizes::PLACES;
 use scheduler::sizes::TASK_NUMBERS;
+
+// A fresh run of a table in row order, or of one held by column.
+fn fresh_by(by_column: bool, tasks: &[u32], handlers: &[u32]) -> Fresh
+    ensures { λ r. ⌜ FreshSays (orderBy «by_column» Task (now (tasks .entry))) (orderBy «by_column» Handler (now (handlers .entry))) r ⌝ }
+{
+    if by_column {
+        run_by_column::fresh(tasks, handlers)
+    } else {
+        Run::fresh(tasks, handlers)
+    }
+}
+
+// That run, laid into the lent arrays.
+fn lay_fresh(
+    by_column: bool,
+    tasks: &[u32],
+    handlers: &[u32],
+    t: &mut [u32; TASK_NUMBERS],
+    h: &mut [u32; HANDLER_NUMBERS],
+    next: &mut [u64; PLACES],
+    due: &mut [u64; TASKS_MOST],
+    owed: &mut [u64; PLACES],
+    figures: &mut [u64; FIGURES],
+)
+    ensures { λ _. ⌜ FreshLaid (orderBy «by_column» Task (now (tasks .entry))) (orderBy «by_column» Handler (now (handlers .entry)))
+        (now (t .exit)) (now (h .exit)) (now (next .exit)) (now (due .exit)) (now (owed .exit)) (now (figures .exit)) ⌝ }
+{
+    let fresh = fresh_by(by_column, tasks, handlers);
+    let run = fresh.run;
+    let answer = fresh.answer;
+    let run_tasks = run.tasks;
+    let run_handlers = run.handlers;
+    let run_next = run.next;
+    let run_due = run.due;
+    let run_owed = run.owed;
+    *t = run_tasks;
+    *h = run_handlers;
+    *next = run_next;
+    *due = run_due;
+    *owed = run_owed;
+    *figures = numbers::run_figures(run, numbers::start_code(answer), Ran::Idle, Late::Nobody);
+}
 
 // A fresh run, laid into the lent arrays.
 #[no_mangle]
@@ -37,20 +82,25 @@ pub extern "C" fn harness_fresh(
     ensures { λ _. ⌜ FreshLaid (now (tasks .entry)) (now (handlers .entry)) (now (t .exit)) (now (h .exit)) (now (next .exit))
         (now (due .exit)) (now (owed .exit)) (now (figures .exit)) ⌝ }
 {
-    let fresh = Run::fresh(tasks, handlers);
-    let run = fresh.run;
-    let answer = fresh.answer;
-    let run_tasks = run.tasks;
-    let run_handlers = run.handlers;
-    let run_next = run.next;
-    let run_due = run.due;
-    let run_owed = run.owed;
-    *t = run_tasks;
-    *h = run_handlers;
-    *next = run_next;
-    *due = run_due;
-    *owed = run_owed;
-    *figures = numbers::run_figures(run, numbers::start_code(answer), Ran::Idle, Late::Nobody);
+    lay_fresh(false, tasks, handlers, t, h, next, due, owed, figures);
+}
+
+// The same of a table held by column.
+#[no_mangle]
+pub extern "C" fn harness_fresh_by_column(
+    tasks: &[u32],
+    handlers: &[u32],
+    t: &mut [u32; TASK_NUMBERS],
+    h: &mut [u32; HANDLER_NUMBERS],
+    next: &mut [u64; PLACES],
+    due: &mut [u64; TASKS_MOST],
+    owed: &mut [u64; PLACES],
+    figures: &mut [u64; FIGURES],
+)
+    ensures { λ _. ⌜ FreshLaid (rowOrder Task (now (tasks .entry))) (rowOrder Handler (now (handlers .entry))) (now (t .exit)) (now (h .exit))
+        (now (next .exit)) (now (due .exit)) (now (owed .exit)) (now (figures .exit)) ⌝ }
+{
+    lay_fresh(true, tasks, handlers, t, h, next, due, owed, figures);
 }
 
 // One step of the run in the lent arrays, whatever stands there. A refused one leaves all numbers of the run as they were.
