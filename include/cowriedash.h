@@ -58,6 +58,20 @@ enum { COWRIEDASH_TASKS_MOST = 64 };
 uint32_t cowriedash_responses(const uint32_t *tasks, size_t tasks_count, const uint32_t *handlers, size_t handlers_count,
                               uint64_t out[64]);
 
+/* The same calls for a table held by column: tasks as all costs, then all periods, then all deadlines; handlers as all costs, then all
+   periods. Each answers what the call above answers for the same rows one after the other, refusals included; a count of tasks that is no
+   multiple of 3, or one of handlers that is none of 2, is refusal 1 in both. At most 224 numbers are copied, on the stack. */
+void cowriedash_verdict_by_column(const uint32_t *tasks, size_t tasks_count, const uint32_t *handlers, size_t handlers_count,
+                                  uint64_t out[COWRIEDASH_NUMBERS]);
+void cowriedash_handler_demand_by_column(const uint32_t *tasks, size_t tasks_count, const uint32_t *handlers,
+                                         size_t handlers_count, uint64_t l, uint64_t out[3]);
+void cowriedash_task_demand_by_column(const uint32_t *tasks, size_t tasks_count, const uint32_t *handlers,
+                                      size_t handlers_count, uint64_t l, uint64_t out[2]);
+uint32_t cowriedash_margin_by_column(const uint32_t *tasks, size_t tasks_count, const uint32_t *handlers,
+                                     size_t handlers_count, uint64_t l, int64_t *out, uint64_t *left);
+uint32_t cowriedash_responses_by_column(const uint32_t *tasks, size_t tasks_count, const uint32_t *handlers,
+                                        size_t handlers_count, uint64_t out[64]);
+
 /* How many counts a guard has: N, int, flip, setup, work, expire, count, clear, gap, in this order. */
 enum { COWRIEDASH_COUNTS = 9 };
 

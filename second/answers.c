@@ -1,14 +1,15 @@
 /* The proved libraries at the far end of a pipe: a question in, its answer out, so that the second program links none of them.
    A question is its number (1 verdict, 2 handler demand, 3 task demand, 4 margin, 5 fresh, 6 step, 7 responses, 8 step by priority,
-   9 rows of a guard) and what it asks about. */
+   9 rows of a guard) and what it asks about. 100 more, and the table is held by column. */
 #include <stdint.h>
 #include <stdio.h>
 #include <stdlib.h>
 
 #include "../include/cowriedash.h"
 
-void harness_fresh(const uint32_t *tasks, size_t tasks_count, const uint32_t *handlers, size_t handlers_count, uint32_t t[192],
+typedef void fresh(const uint32_t *tasks, size_t tasks_count, const uint32_t *handlers, size_t handlers_count, uint32_t t[192],
                    uint32_t h[32], uint64_t next[80], uint64_t due[64], uint64_t owed[80], uint64_t figures[9]);
+fresh harness_fresh, harness_fresh_by_column;
 void harness_step(const uint32_t t[192], const uint32_t h[32], uint64_t next[80], uint64_t due[64], uint64_t owed[80],
                   uint64_t figures[9], const uint32_t *arrivals, size_t count);
 void harness_step_by_priority(const uint32_t t[192], const uint32_t h[32], uint64_t next[80], uint64_t due[64], uint64_t owed[80],
@@ -53,36 +54,37 @@ static struct {
 } run;
 
 static void answer(uint64_t question) {
+    int by_column = question > 100;
     uint64_t out[COWRIEDASH_NUMBERS] = {0};
     uint64_t lengths[COWRIEDASH_TASKS_MOST];
     int64_t ticks = 0;
     uint32_t counts[COWRIEDASH_COUNTS];
     bool bursty;
-    switch (question) {
+    switch (question % 100) {
     case 1:
         table();
-        cowriedash_verdict(tasks, tasks_count, handlers, handlers_count, out);
+        (by_column ? cowriedash_verdict_by_column : cowriedash_verdict)(tasks, tasks_count, handlers, handlers_count, out);
         put(out, sizeof out);
         break;
     case 2:
         table();
-        cowriedash_handler_demand(tasks, tasks_count, handlers, handlers_count, number(), out);
+        (by_column ? cowriedash_handler_demand_by_column : cowriedash_handler_demand)(tasks, tasks_count, handlers, handlers_count, number(), out);
         put(out, 3 * sizeof *out);
         break;
     case 3:
         table();
-        cowriedash_task_demand(tasks, tasks_count, handlers, handlers_count, number(), out);
+        (by_column ? cowriedash_task_demand_by_column : cowriedash_task_demand)(tasks, tasks_count, handlers, handlers_count, number(), out);
         put(out, 2 * sizeof *out);
         break;
     case 4:
         table();
-        out[0] = cowriedash_margin(tasks, tasks_count, handlers, handlers_count, number(), &ticks, &out[1]);
+        out[0] = (by_column ? cowriedash_margin_by_column : cowriedash_margin)(tasks, tasks_count, handlers, handlers_count, number(), &ticks, &out[1]);
         put(out, 2 * sizeof *out);
         put(&ticks, sizeof ticks);
         break;
     case 5:
         table();
-        harness_fresh(tasks, tasks_count, handlers, handlers_count, run.t, run.h, run.next, run.due, run.owed, run.figures);
+        (by_column ? harness_fresh_by_column : harness_fresh)(tasks, tasks_count, handlers, handlers_count, run.t, run.h, run.next, run.due, run.owed, run.figures);
         put(&run, sizeof run);
         break;
     case 6:
@@ -93,7 +95,7 @@ static void answer(uint64_t question) {
         break;
     case 7:
         table();
-        out[0] = cowriedash_responses(tasks, tasks_count, handlers, handlers_count, lengths);
+        out[0] = (by_column ? cowriedash_responses_by_column : cowriedash_responses)(tasks, tasks_count, handlers, handlers_count, lengths);
         put(out, sizeof *out);
         put(lengths, sizeof lengths);
         break;

@@ -8,6 +8,7 @@
 //!     second fit PATIENCE              reads a table file from standard input and prints the lines that `fit` must print, or, where no length up
 //!                                      to PATIENCE fails and that settles nothing, `patience PATIENCE LENGTH`: how far it would have to go
 
+mod columns;
 mod files;
 mod guard_files;
 mod guards;
@@ -47,6 +48,8 @@ struct Counts {
     late: u64,
     /// Tables compared with themselves in finer ticks and in another order.
     again: u64,
+    /// Tables compared with themselves held by column.
+    columns: u64,
 }
 
 fn differ(what: &str, table: &Table, ours: String, theirs: String) -> ! {
@@ -251,6 +254,10 @@ fn main() {
                 Ok(compared) => counts.again += compared as u64,
                 Err(what) => differ("in other ticks or another order", &table, what, "the same board".into()),
             }
+            match columns::compare(&mut random, &table) {
+                Ok(()) => counts.columns += 1,
+                Err(what) => differ("by column", &table, what, "the same in row order".into()),
+            }
             for _ in 0..3 {
                 let l = random.from_to(0, 300);
                 ask(&table, l, &mut counts);
@@ -270,6 +277,7 @@ fn main() {
         counts.tables, counts.verdicts, counts.fits, counts.misses, counts.refused, counts.short, counts.questions
     );
     println!("seed {seed}: {} tables alike in finer ticks and in another order, 0 differences", counts.again);
+    println!("seed {seed}: {} tables alike by column and by row, uneven ones among them, 0 differences", counts.columns);
     println!("seed {seed}: {} idle points where W and H put them, {} tables without one, 0 differences", counts.idle[0], counts.idle[1]);
     println!(
         "seed {seed}: {} runs, {} steps compared ({} by priority; {} late, refused 6 to 11: {:?}), 0 differences",

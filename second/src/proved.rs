@@ -59,6 +59,10 @@ impl Answered {
     fn bytes<const N: usize>(&mut self) -> [u8; N] {
         std::array::from_fn(|_| self.0.next().expect("a byte of the answer"))
     }
+    /// The bytes that are left.
+    pub fn rest(self) -> Vec<u8> {
+        self.0.collect()
+    }
     pub fn words(&mut self, count: usize) -> Vec<u32> {
         (0..count).map(|_| u32::from_le_bytes(self.bytes())).collect()
     }

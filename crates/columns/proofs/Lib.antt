@@ -4,3 +4,4 @@ pub mod Alike
 pub mod Held
 pub mod Filled
 pub mod Lent
+pub mod Instances
