@@ -10,6 +10,8 @@ int main(void) {
     const uint32_t guard[COWRIEDASH_COUNTS] = {15, 79, 5, 0, 600, 79, 12, 5, 40000};
     uint64_t sheet[COWRIEDASH_NUMBERS], left, response[COWRIEDASH_TASKS_MOST], rows[4];
     int64_t margin;
+    /* The same tasks as the kernel's build keeps them: all costs, all periods, all deadlines. */
+    const uint32_t columns[] = {2, 4, 5, 8, 5, 8};
 
     cowriedash_verdict(tasks, 6, handlers, 2, sheet);
     if (sheet[0] == COWRIEDASH_MISSES)
@@ -18,6 +20,8 @@ int main(void) {
         printf("margin at 8: %" PRId64 ", left %" PRIu64 "\n", margin, left);
     if (cowriedash_responses(tasks, 6, handlers, 2, response) == 0)
         printf("by priority: task 0 within %" PRIu64 ", task 1 %s\n", response[0], response[1] ? "in time" : "not in time");
+    cowriedash_verdict_by_column(columns, 6, handlers, 2, sheet);
+    printf("by column: %s at %" PRIu64 "\n", sheet[0] == COWRIEDASH_MISSES ? "misses" : "fits", sheet[2]);
     cowriedash_guard_rows(true, guard, rows);
     if (rows[0] == 0)
         printf("guard: interrupt %" PRIu64 "/%" PRIu64 ", timer %" PRIu64 "/%" PRIu64 "\n", rows[1], rows[3], rows[2], rows[3]);
