@@ -1,0 +1,3 @@
+-- Contents. What a reader must believe of a page:
+-- bytes laid over it
+pub mod Laid
