@@ -1,0 +1,2 @@
+-- What no promise cites: where the code finds a cost.
+pub mod Scan
