@@ -7,12 +7,16 @@
 --   Kept bs out old new      out is bs with the digits of one number replaced, and every byte before and behind them kept
 --   BytesKept                a rewritten file is that
 --   ReadBack                 and it says the rows with that one cost changed
+--   TableChanged             whose table is the old one with that one number changed
 use mathlib.Core.List.{List, [], _∷_, _++_}
 use mathlib.Core.Logic.{_⊎_}
 use mathlib.Core.Path.{_≡_}
-use Prim.Native.Nat.{ℕ, zero, suc, _<_, _≤_}
+use Prim.Native.Nat.{ℕ, zero, suc, _*_, _<_, _≤_}
+use lib.ListN.{length, getD, set}
+use Rattle.demand.specs.Rows.{tasksOf, width}
 use Rattle.demand.specs.declared.table.Kind.the-variants.{Task, Handler}
 use Rattle.layout.specs.File.{Entry, entry, AllLawful, fileText, FileSays}
+use Rattle.layout.specs.Table.{listOf, misplaced}
 use Rattle.layout.specs.declared.words.Columns.{Columns}
 use Rattle.text.specs.Ascii.{crlf}
 use Rattle.text.specs.Numbers.{decimal}
@@ -56,3 +60,14 @@ abbrev pub ReadBack : Type 0
 ReadBack =
     (bs out : List ℕ) (es : List Entry) (i c : ℕ)
     → i < tasksIn es → c ≤ costIn es i → FileSays bs es → Rewritten bs es i c out → FileSays out (recost es i c)
+
+-- task i has its cost at the first of its numbers
+pub record Changed (es : List Entry) (i c : ℕ) : Type 0 where
+  pub present : costIn es i ≡ getD (listOf Task es) (width Task * i) 0
+  pub tasks : listOf Task (recost es i c) ≡ set (listOf Task es) (width Task * i) c
+  pub handlers : listOf Handler (recost es i c) ≡ listOf Handler es
+  pub misplaced : misplaced (recost es i c) ≡ misplaced es
+
+pub record TableChanged : Type 0 where
+  pub many : (es : List Entry) → tasksIn es ≡ length (tasksOf (listOf Task es))
+  pub changed : (es : List Entry) (i c : ℕ) → Changed es i c

@@ -1,4 +1,4 @@
-// A table file with the cost of one task changed: its digits are replaced, and every other byte is kept.
+// Where the cost of a task stands in a table file, so that its digits can be replaced and every other byte kept.
 ghost use mathlib.Core.Path.{_≡_};
 ghost use Prim.Native.Nat.{_+_, _-_, _<_};
 ghost use lib.ListN.{length, getD, drop};
@@ -30,8 +30,8 @@ fn fewer(left: usize, begins: bool) -> usize
 // The bytes of an LF and `task,`.
 const BEHIND_NAME: usize = 6;
 
-// Where the cost of the task at this row begins, in a file that is in its layout: behind an LF and `task,`. Past the end for a row too many.
-fn cost_from(bytes: &[u8], row: usize) -> usize
+// Where the cost of the task at this row begins, in a file that is in its layout: behind an LF and `task,`.
+pub fn cost_from(bytes: &[u8], row: usize) -> usize
     ensures { λ r. ⌜ r ≡ costFrom (now (bytes .entry)) row ⌝ }
 {
     let n = bytes.len();
