@@ -1,0 +1,9 @@
+-- Contents. What a reader must believe of trimming a table (02, M-112):
+-- one cost of a table changed, all else kept
+pub mod Costs
+-- what the public call answers
+pub mod Promise
+-- and that no other answer is allowed
+pub mod Unique
+-- what no promise cites
+pub mod Inside
