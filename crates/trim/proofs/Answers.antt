@@ -165,7 +165,8 @@ module _ (t h : List ℕ) (i : ℕ) (f g : Figures) where
       go (inr l) =
           let most : Fair (costAt t i) = cost-fair t h i (in-table .0) (in-table .1) in
           let next : Fair (g .new + 1) = record { least = omega arith; most = omega (arith, a .most, most .most) } in
-          absurd (fits-over-misses t h i (g .new + 1) (f .new) (in-table .0) next (omega arith) (a .fits) (b .next (omega (arith, a .most))))
+          let lower : g .new < costAt t i = omega (arith, a .most) in
+          absurd (fits-over-misses t h i (g .new + 1) (f .new) (in-table .0) next (omega arith) (a .fits) (b .next lower))
 
   cost-or-none : SaysCost t h i f → SaysNone t h i g → ⊥
   cost-or-none a b =

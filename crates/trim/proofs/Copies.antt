@@ -8,12 +8,15 @@ use lib.Seq.{take-suc, take-suc-set, take-set-lt, take-length}
 use Rattle.trim.specs.Costs.{placeOf, withCost}
 
 -- One number more.
-pub copy-turn : (all s : List ℕ) (i : ℕ) → i < length all → i < length s → take i all ≡ take i s → take (i + 1) (set all i (getD s i 0)) ≡ take (i + 1) s
+pub copy-turn : (all s : List ℕ) (i : ℕ) → i < length all → i < length s → take i all ≡ take i s
+    → take (i + 1) (set all i (getD s i 0)) ≡ take (i + 1) s
 copy-turn all s i room more same =
-    rw (add-one i) (take-suc-set all i (getD s i 0) room ∙ ap (λ (front : List ℕ). front ++ (getD s i 0 ∷ [])) same ∙ sym (take-suc s i 0 more))
+    let ends : take i all ++ (getD s i 0 ∷ []) ≡ take i s ++ (getD s i 0 ∷ []) = ap (λ (front : List ℕ). front ++ (getD s i 0 ∷ [])) same in
+    rw (add-one i) (take-suc-set all i (getD s i 0) room ∙ ends ∙ sym (take-suc s i 0 more))
 
 -- All of them, with another cost for a task.
-pub copy-with : (all t : List ℕ) (n i c : ℕ) → n ≡ length t → placeOf i < n → take n all ≡ take n t → take (length t) (set all (placeOf i) c) ≡ withCost t i c
+pub copy-with : (all t : List ℕ) (n i c : ℕ) → n ≡ length t → placeOf i < n → take n all ≡ take n t
+    → take (length t) (set all (placeOf i) c) ≡ withCost t i c
 unfolding withCost
 copy-with all t n i c e place same =
     ap (λ (m : ℕ). take m (set all (placeOf i) c)) (sym e)

@@ -38,8 +38,10 @@ fits-over-misses t h i b c readable fair less high low =
 -- What the verdict tells of a readable table: a yes or a no.
 pub judged-by : (t h : List ℕ) (a : Answer) (b : Bool) → verdictRefusal t h ≡ 0 → VerdictSays t h a → b ≡ isFits a → Judged t h b
 unfolding VerdictSays Says SaysBy figures
-judged-by t h (answer.Fits l n) b readable says e = record { readable = readable; gets = record { answer = answer.Fits l n; says = says; word = rw e } }
-judged-by t h (answer.Misses m l) b readable says e = record { readable = readable; gets = record { answer = answer.Misses m l; says = says; word = rw e } }
+judged-by t h (answer.Fits l n) b readable says e =
+    record { readable = readable; gets = record { answer = answer.Fits l n; says = says; word = rw e } }
+judged-by t h (answer.Misses m l) b readable says e =
+    record { readable = readable; gets = record { answer = answer.Misses m l; says = says; word = rw e } }
 judged-by t h (answer.Refused k) b readable says e = absurd (omega (arith, says .unreadable))
 
 -- Of any table, by the case of the answer.

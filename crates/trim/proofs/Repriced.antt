@@ -32,7 +32,8 @@ with-rows (a ∷ []) (suc i) c = rw (three i)
 with-rows (a ∷ p ∷ []) zero c = refl
 with-rows (a ∷ p ∷ []) (suc i) c = rw (three i)
 with-rows (a ∷ p ∷ d ∷ t) zero c = refl
-with-rows (a ∷ p ∷ d ∷ t) (suc i) c = rw (three i) (ap (λ (rs : List Row). record { cost = a; period = p; deadline = d } ∷ rs) (with-rows t i c))
+with-rows (a ∷ p ∷ d ∷ t) (suc i) c =
+    rw (three i) (ap (λ (rs : List Row). record { cost = a; period = p; deadline = d } ∷ rs) (with-rows t i c))
 
 pub with-present : PresentKept
 unfolding withCost costAt

@@ -1,5 +1,5 @@
 -- What `trim` promises (02, M-112), said of the verdict's own promise.
---   Gets t h w          the verdict's promise allows an answer to the table t, h whose word is w; it allows one only, so that is the verdict
+--   Gets t h w          the verdict's promise allows an answer to the table t, h whose word is w; it allows one only: that is the verdict
 --   missing t i         == task i is not in the table: the test of 18
 --   trimTests t h i     == the verdict's own refusal and 18, each a number beside its test
 --   trimRefusal t h i   == the first of 1, 2, 3, 13, 4 and 18 that applies, 0 where none does
