@@ -179,7 +179,7 @@ module _ (t h : List ℕ) (i : ℕ) (f g : Figures) where
   none-or-refused : SaysNone t h i f → SaysRefused t h i g → ⊥
   none-or-refused a b = omega (arith, a .answered, b .unanswered)
 
-says-unique : (t h : List ℕ) (i : ℕ) (f g : Figures) → Says t h i f → Says t h i g → f ≡ g
+pub says-unique : (t h : List ℕ) (i : ℕ) (f g : Figures) → Says t h i f → Says t h i g → f ≡ g
 unfolding Says SaysBy
 says-unique t h i f g = go (f .word) (g .word)
   where

@@ -4,3 +4,4 @@ pub mod Repriced
 pub mod Lowered
 pub mod Halving
 pub mod Answers
+pub mod Cases

@@ -5,5 +5,7 @@ pub mod Costs
 pub mod Promise
 -- and that no other answer is allowed
 pub mod Unique
+-- tables trimmed by hand: one list, one statement
+pub mod Cases
 -- what no promise cites
 pub mod Inside
