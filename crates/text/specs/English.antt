@@ -1,11 +1,11 @@
--- The English line of a refusal number (01, "Numbered refusals"; 02, M-101 for 1 and 13, M-107 for 14): the table's own words.
+-- The English line of a refusal number (01, "Numbered refusals"; 02, M-101 for 1 and 13, M-107 for 14, M-112 for 18): the table's own words.
 --   english n   == the line of the number n, "unknown" for a number that is not in the table
 use mathlib.Core.List.{List, [], _∷_}
 use Prim.Native.Nat.{ℕ}
 use lib.ListN.{getD}
 use Rattle.text.specs.Ascii.{ascii}
 
--- by number, from 0
+-- by number, from 0; 15, 16 and 17 are not given by any call
 abbrev pub phrases : List (List ℕ)
 phrases =
     ascii "unknown"
@@ -23,6 +23,10 @@ phrases =
     ∷ ascii "the file breaks the layout below"
     ∷ ascii "deadline 0 or above its period, or a handler with one"
     ∷ ascii "N out of range"
+    ∷ ascii "unknown"
+    ∷ ascii "unknown"
+    ∷ ascii "unknown"
+    ∷ ascii "a named task that isn't in the table"
     ∷ []
 
 unfoldable pub english : ℕ → List ℕ

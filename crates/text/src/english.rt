@@ -45,6 +45,7 @@ pub fn line(number: u32) -> Text
         12 => of(b"the file breaks the layout below"),
         13 => of(b"deadline 0 or above its period, or a handler with one"),
         14 => of(b"N out of range"),
+        18 => of(b"a named task that isn't in the table"),
         _ => of(b"unknown"),
     }
 }
