@@ -2,6 +2,7 @@
 pub mod by_priority;
 pub mod guard_rows;
 pub mod held_by_column;
+pub mod trimmed;
 
 ghost use Rattle.cowriedash.specs.Numbers.{demandNumbers, handlerNumbers, VerdictTold, HandlerTold, TaskTold, MarginFigured, MarginTold};
 ghost use mathlib.Core.Path.{_≡_};

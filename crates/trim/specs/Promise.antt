@@ -5,7 +5,7 @@
 --   trimRefusal t h i   == the first of 1, 2, 3, 13, 4 and 18 that applies, 0 where none does
 --   figures r           == the word, number and values for each case of an answer; what does not apply is 0
 --   costOf, noneOf, refusalOf   == those of a cost, of none and of a refusal
---   numbersOf g         == the numbers of the figures g: the refusal's, old and new cost
+--   numbersOf g         == the numbers of the figures g: the refusal's, old and new cost; answerNumbers r are those of an answer
 --   TrimSays t h i r    r is the answer for task i of the table t, h
 use mathlib.Core.Bool.{Bool}
 use mathlib.Core.List.{List, [], _∷_}
@@ -69,6 +69,9 @@ figures (answer.Refused number) = refusalOf number
 
 abbrev pub numbersOf : Figures → List ℕ
 numbersOf g = g .code ∷ g .old ∷ g .new ∷ []
+
+abbrev pub answerNumbers : Answer → List ℕ
+answerNumbers r = numbersOf (figures r)
 
 -- ---- what they say
 

@@ -2,8 +2,9 @@
 mod costs;
 mod search;
 
+ghost use mathlib.Core.Path.{_≡_};
 ghost use Rattle.trim.specs.Inside.{Judged};
-ghost use Rattle.trim.specs.Promise.{TrimSays};
+ghost use Rattle.trim.specs.Promise.{answerNumbers, TrimSays};
 use demand::table;
 use demand::table::Kind;
 
@@ -12,6 +13,20 @@ pub enum Answer {
     Cost { old: u32, new: u32 },
     None { old: u32 },
     Refused { number: u32 },
+}
+
+// How many numbers tell an answer.
+pub const NUMBERS: usize = 3;
+
+// The numbers of an answer: the refusal's number or 0, the present cost, then the new one, which is 0 where there is none.
+pub fn numbers(answer: Answer) -> [u64; NUMBERS]
+    ensures { λ r. ⌜ r ≡ answerNumbers answer ⌝ }
+{
+    match answer {
+        Answer::Cost { old, new } => [0, old as u64, new as u64],
+        Answer::None { old } => [0, old as u64, 0],
+        Answer::Refused { number } => [number as u64, 0, 0],
+    }
 }
 
 // The greatest cost of the task at row, from 1 up to its present one, at which the table fits, all else kept. Nothing lent is changed. At
