@@ -1,5 +1,5 @@
-/* Cowriedash for C: the verdict on a table, the two demands, the responses by fixed priority and the rows of guarded interrupts, without
-   the scheduler.
+/* Cowriedash for C: the verdict on a table, the two demands, the responses by fixed priority, the rows of guarded interrupts and the
+   greatest cost of a task that fits, without the scheduler.
 
    A table is two lists of 32-bit numbers: tasks in threes (cost, period, deadline, cost, ..), each deadline from 1 to
    its period, and handlers in twos (cost, period, cost, ..).
@@ -79,6 +79,15 @@ enum { COWRIEDASH_COUNTS = 9 };
    or clear, a bursty one no setup: what stands there is not read. out: the refusal's number (14 or 3) or 0; the cost of the interrupt's
    row; that of the timer's; the period of both, which is the gap. All three are 0 if refused. */
 void cowriedash_guard_rows(bool bursty, const uint32_t counts[COWRIEDASH_COUNTS], uint64_t out[4]);
+
+/* How many numbers a trimmed table has. */
+enum { COWRIEDASH_TRIM_NUMBERS = 3 };
+
+/* The greatest cost of the task at row, counted from 0, from 1 up to its present one, at which the table fits, all else kept. out: the
+   refusal's number (1, 2, 3, 13, 4 or 18, a named task that isn't in the table) or 0; the present cost; the new one, equal to it where the
+   table fits already, 0 where no cost from 1 fits. The list itself is not changed. Takes the time of 22 verdicts at most. */
+void cowriedash_trim(const uint32_t *tasks, size_t tasks_count, const uint32_t *handlers, size_t handlers_count, size_t row,
+                     uint64_t out[COWRIEDASH_TRIM_NUMBERS]);
 
 #ifdef __cplusplus
 }

@@ -1,6 +1,6 @@
 /* The proved libraries at the far end of a pipe: a question in, its answer out, so that the second program links none of them.
    A question is its number (1 verdict, 2 handler demand, 3 task demand, 4 margin, 5 fresh, 6 step, 7 responses, 8 step by priority,
-   9 rows of a guard) and what it asks about. 100 more, and the table is held by column. */
+   9 rows of a guard, 10 trim) and what it asks about. 100 more, and the table is held by column. */
 #include <stdint.h>
 #include <stdio.h>
 #include <stdlib.h>
@@ -110,6 +110,11 @@ static void answer(uint64_t question) {
         get(counts, sizeof counts);
         cowriedash_guard_rows(bursty, counts, out);
         put(out, 4 * sizeof *out);
+        break;
+    case 10:
+        table();
+        cowriedash_trim(tasks, tasks_count, handlers, handlers_count, number(), out);
+        put(out, COWRIEDASH_TRIM_NUMBERS * sizeof *out);
         break;
     default:
         exit(1);

@@ -1,4 +1,5 @@
-/* Do tasks 2/5 and 4/8, each due by its next arrival, fit beside a handler 1/4? And what are the rows of a guard? */
+/* Do tasks 2/5 and 4/8, each due by its next arrival, fit beside a handler 1/4? And what are the rows of a guard?
+   And what would task 1 have to cost? */
 #include <inttypes.h>
 #include <stdio.h>
 
@@ -8,7 +9,7 @@ int main(void) {
     const uint32_t tasks[] = {2, 5, 5, 4, 8, 8}, handlers[] = {1, 4};
     /* A guard that lets 15 interrupts through every 40,000 ticks: N, int, flip, setup (it has none), work, expire, count, clear, gap. */
     const uint32_t guard[COWRIEDASH_COUNTS] = {15, 79, 5, 0, 600, 79, 12, 5, 40000};
-    uint64_t sheet[COWRIEDASH_NUMBERS], left, response[COWRIEDASH_TASKS_MOST], rows[4];
+    uint64_t sheet[COWRIEDASH_NUMBERS], left, response[COWRIEDASH_TASKS_MOST], rows[4], trimmed[COWRIEDASH_TRIM_NUMBERS];
     int64_t margin;
     /* The same tasks as the kernel's build keeps them: all costs, all periods, all deadlines. */
     const uint32_t columns[] = {2, 4, 5, 8, 5, 8};
@@ -25,5 +26,8 @@ int main(void) {
     cowriedash_guard_rows(true, guard, rows);
     if (rows[0] == 0)
         printf("guard: interrupt %" PRIu64 "/%" PRIu64 ", timer %" PRIu64 "/%" PRIu64 "\n", rows[1], rows[3], rows[2], rows[3]);
+    cowriedash_trim(tasks, 6, handlers, 2, 1, trimmed);
+    if (trimmed[0] == 0 && trimmed[2] > 0)
+        printf("task 1 fits with cost %" PRIu64 " for %" PRIu64 "\n", trimmed[2], trimmed[1]);
     return 0;
 }

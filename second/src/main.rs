@@ -20,6 +20,7 @@ mod random;
 mod scheduler;
 mod steps;
 mod tables;
+mod trim;
 mod units;
 
 use random::Random;
@@ -189,6 +190,13 @@ fn guard(random: &mut Random, guards: &mut guards::Counts) {
     }
 }
 
+/// The greatest cost of a task at which the table fits.
+fn trim(random: &mut Random, table: &Table, trimmed: &mut trim::Counts) {
+    if let Err((ours, theirs)) = trim::compare(random, table, trimmed) {
+        differ("trimmed table", table, ours, theirs);
+    }
+}
+
 /// Files through a program, damaged ones among them. How many were compared, and how many of them break the layout.
 fn read_all(random: &mut Random, count: u64, program: &str, made: fn(&mut Random) -> Vec<u8>, lines: fn(&[u8]) -> Option<String>) -> (u64, u64) {
     let (mut compared, mut broken) = (0, 0);
@@ -245,6 +253,7 @@ fn main() {
     let mut counts = Counts::default();
     let mut steps = steps::Counts::default();
     let mut guards = guards::Counts::default();
+    let mut trimmed = trim::Counts::default();
     for _ in 0..count {
         for kind in [tables::small, tables::hostile, tables::wide] {
             let table = kind(&mut random);
@@ -266,6 +275,7 @@ fn main() {
             ask(&table, l, &mut counts);
             run_all(&mut random, &table, &mut steps);
             guard(&mut random, &mut guards);
+            trim(&mut random, &table, &mut trimmed);
         }
         ask_wholes(&mut random, &mut counts);
     }
@@ -294,6 +304,10 @@ fn main() {
         guards.burst,
         guards.outside,
         guards.kept
+    );
+    println!(
+        "seed {seed}: {} tables trimmed ({} as they are, {} lowered, {} with no cost that fits, {} refused, {} of them by 18), 0 differences",
+        trimmed.all, trimmed.kept, trimmed.lowered, trimmed.none, trimmed.refused, trimmed.missing
     );
     let (compared, broken) = read_all(&mut random, count, program, files::file, |file| files::sheet(file, PATIENCE).ok());
     println!("seed {seed}: {compared} files compared ({broken} broken), 0 differences");

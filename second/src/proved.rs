@@ -99,6 +99,11 @@ pub fn responses(t: &[u32], h: &[u32]) -> (u32, Vec<u64>) {
     (out.longs(1)[0] as u32, out.longs(64))
 }
 
+/// The refusal's number or 0, the present cost, and the new one or 0 for none.
+pub fn trim(t: &[u32], h: &[u32], row: u64) -> Vec<u64> {
+    about(10, t, h).number(row).answer(24).longs(3)
+}
+
 /// The refusal's number or 0, both costs, and the period.
 pub fn guard_rows(bursty: bool, counts: &[u32; 9]) -> Vec<u64> {
     Laid::question(9).number(bursty as u64).words(counts).answer(32).longs(4)
