@@ -3,10 +3,10 @@
 use crate::model;
 use crate::proved;
 use crate::random::Random;
-use crate::tables::Table;
+use crate::tables::{self, Table};
 
 /// How far a verdict is searched.
-const PATIENCE: u128 = 2_000;
+const PATIENCE: u128 = 3_000;
 /// The greatest cost below which each one is tried.
 const COSTS: u32 = 300;
 
@@ -46,17 +46,12 @@ fn trim(table: &Table, row: u64) -> Option<[u64; 3]> {
     Some([0, old as u64, 0])
 }
 
-/// A task of the table, or one past its last; an error shows both answers.
-pub fn compare(random: &mut Random, table: &Table, counts: &mut Counts) -> Result<(), (String, String)> {
-    let tasks = table.tasks.len() as u64 / 3;
-    let row = match random.below(8) {
-        0 => random.one_of(&[tasks, tasks + 1, 64, u32::MAX as u64, u64::MAX]),
-        _ => random.below(tasks.max(1)),
-    };
+/// Both answers for a task of a table; an error shows them.
+fn check(table: &Table, row: u64, counts: &mut Counts) -> Result<(), String> {
     let Some(want) = trim(table, row) else { return Ok(()) };
     let got = proved::trim(&table.tasks, &table.handlers, row);
     if got != want {
-        return Err((format!("{got:?}"), format!("{want:?} of task {row}")));
+        return Err(format!("task {row} of tasks {:?}, handlers {:?}: proved {got:?}, second program {want:?}", table.tasks, table.handlers));
     }
     counts.all += 1;
     match want {
@@ -68,4 +63,27 @@ pub fn compare(random: &mut Random, table: &Table, counts: &mut Counts) -> Resul
     }
     counts.refused += (want[0] > 0) as u64;
     Ok(())
+}
+
+/// A small table in slower ticks, so that there is room, and any cost for one of its tasks.
+fn heavy(random: &mut Random) -> (Table, u64) {
+    let mut table = tables::small(random);
+    let slower = random.from_to(2, 4) as u32;
+    table.tasks.chunks_exact_mut(3).for_each(|r| r[1..].iter_mut().for_each(|n| *n *= slower));
+    table.handlers.chunks_exact_mut(2).for_each(|r| r[1] *= slower);
+    let row = random.below(table.tasks.len() as u64 / 3);
+    table.tasks[3 * row as usize] = random.from_to(1, 60) as u32;
+    (table, row)
+}
+
+/// A task of this table, or one past its last, and one of a table that fits with less; an error shows what differs.
+pub fn compare(random: &mut Random, table: &Table, counts: &mut Counts) -> Result<(), String> {
+    let tasks = table.tasks.len() as u64 / 3;
+    let row = match random.below(8) {
+        0 => random.one_of(&[tasks, tasks + 1, 64, u32::MAX as u64, u64::MAX]),
+        _ => random.below(tasks.max(1)),
+    };
+    check(table, row, counts)?;
+    let (table, row) = heavy(random);
+    check(&table, row, counts)
 }
