@@ -2,20 +2,23 @@
 --   isFits a             == the verdict's answer a is a yes
 --   toldBy b             == the verdict's word where that is b
 --   Judged t h b         the table is readable, and b is whether the verdict is a yes
---   Placed t i           task i is in the list t, which is no longer than 64 tasks
+--   numbersMost          == the most numbers of a list of tasks
+--   Placed t i           task i is in the list t, which is no longer than that
 --   CanTry t h i c       cost c may be tried for task i: the table is readable, the task is in it and the cost in range
 --   CanSearch t h i m    cost 1 fits and cost m misses
 --   turnsMost            == the most halvings of a search
---   halved n             == 999,999 halved n times, rounded down
+--   halved n             == the costs below the greatest, halved n times, rounded down
 --   Between t h i m low high n   what a search has found after n turns: low fits, high misses, and so many costs at most lie between them
 --   FoundSays t h i m r  r is the cost below m that fits while the next one up misses, found in at most so many turns
 use mathlib.Core.Bool.{Bool, true, false}
 use mathlib.Core.List.{List}
 use mathlib.Core.Path.{_≡_}
-use Prim.Native.Nat.{ℕ, zero, suc, _+_, _/_, _≤_, _<_}
+use Prim.Native.Nat.{ℕ, zero, suc, _+_, _-_, _*_, _/_, _≤_, _<_}
 use lib.ListN.{length}
-use Rattle.demand.specs.Limits.{figureMost}
+use Rattle.demand.specs.Limits.{figureMost, tasksMost}
 use Rattle.demand.specs.Refusals.{Fair}
+use Rattle.demand.specs.Rows.{width}
+use Rattle.demand.specs.declared.table.Kind.the-variants.{Task}
 use Rattle.trim.specs.Costs.{placeOf, withCost}
 use Rattle.trim.specs.Promise.{Gets}
 use Rattle.trim.specs.declared.search.Found.{Found}
@@ -37,9 +40,12 @@ pub record Judged (t h : List ℕ) (b : Bool) : Type 0 where
   pub readable : verdictRefusal t h ≡ 0
   pub gets : Gets t h (toldBy b)
 
+abbrev pub numbersMost : ℕ
+numbersMost = width Task * tasksMost
+
 pub record Placed (t : List ℕ) (i : ℕ) : Type 0 where
   pub place : placeOf i < length t
-  pub short : length t ≤ 192
+  pub short : length t ≤ numbersMost
 
 pub record CanTry (t h : List ℕ) (i c : ℕ) : Type 0 where
   pub readable : verdictRefusal t h ≡ 0
@@ -58,7 +64,7 @@ abbrev pub turnsMost : ℕ
 turnsMost = 20
 
 unfoldable pub halved : ℕ → ℕ
-halved zero = 999999
+halved zero = figureMost - 1
 halved (suc n) = halved n / 2
 
 pub record Between (t h : List ℕ) (i m low high n : ℕ) : Type 0 where

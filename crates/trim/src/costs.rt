@@ -3,14 +3,14 @@ ghost use mathlib.Core.Path.{_≡_};
 ghost use Prim.Native.Nat.{_<_};
 ghost use lib.ListN.{length, take};
 ghost use Rattle.trim.specs.Costs.{placeOf, costAt, withCost};
-ghost use Rattle.trim.specs.Inside.{Placed};
+ghost use Rattle.trim.specs.Inside.{numbersMost, Placed};
 use demand::table;
 use demand::table::Kind;
 use demand::table::TASK_NUMBERS;
 
 // Where the cost of the task at row stands.
 fn place_of(row: usize) -> usize
-    requires { ⌜ placeOf row < 192 ⌝ }
+    requires { ⌜ placeOf row < numbersMost ⌝ }
     ensures { λ r. ⌜ r ≡ placeOf row ⌝ }
 {
     table::width(Kind::Task) * row

@@ -2,13 +2,14 @@ use mathlib.Core.Path.{_≡_, refl}
 use native.Mathlib.Omega.{arith}
 use Prim.Native.Nat.{_-_, _≤_}
 use lib.ListN.{length, take, length-set}
+use Rattle.trim.specs.Inside.{numbersMost}
 use Rattle.trim.proofs.Copies.{copy-turn, copy-with}
 use borrow.Author.Needs.{needs}
 use Rattle.trim.proofs.costs.with_cost.Statement.{statement}
 use Rattle.trim.proofs.costs.with_cost.Tie as tie
 
 abbrev Inv-loop : tie.InvT-loop
-Inv-loop tasks row cost all₀ i₀ all i = (i ≤ length tasks) × (length all ≡ 192) × (take i all ≡ take i tasks)
+Inv-loop tasks row cost all₀ i₀ all i = (i ≤ length tasks) × (length all ≡ numbersMost) × (take i all ≡ take i tasks)
 
 abbrev μ-loop : tie.MeasureT-loop
 μ-loop tasks row cost all₀ i₀ all i = length tasks - i
