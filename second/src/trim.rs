@@ -51,7 +51,8 @@ fn check(table: &Table, row: u64, counts: &mut Counts) -> Result<(), String> {
     let Some(want) = trim(table, row) else { return Ok(()) };
     let got = proved::trim(&table.tasks, &table.handlers, row);
     if got != want {
-        return Err(format!("task {row} of tasks {:?}, handlers {:?}: proved {got:?}, second program {want:?}", table.tasks, table.handlers));
+        let Table { tasks, handlers } = table;
+        return Err(format!("task {row} of tasks {tasks:?}, handlers {handlers:?}: proved {got:?}, second program {want:?}"));
     }
     counts.all += 1;
     match want {

@@ -1,4 +1,4 @@
--- The English line of a refusal number (01, "Numbered refusals"; 02, M-101 for 1 and 13, M-107 for 14, M-112 for 18): the table's own words.
+-- The English line of a refusal number (01, "Numbered refusals"; 02, M-101 for 1 and 13, M-107 for 14, M-112 for 18): the law's words.
 --   english n   == the line of the number n, "unknown" for a number that is not in the table
 use mathlib.Core.List.{List, [], _∷_}
 use Prim.Native.Nat.{ℕ}

@@ -66,7 +66,8 @@ gets-by verdict.Word.fits t h e =
 gets-by verdict.Word.misses t h e =
     let ts = tasksOf t in
     let hs = handlersOf h in
-    record { answer = answer.Misses (missAt ts hs (failing 64 ts hs 1)) (load ts hs); says = holds-says (caseOf verdict.Word.misses t h) e .holds; word = refl }
+    let miss = missAt ts hs (failing 64 ts hs 1) in
+    record { answer = answer.Misses miss (load ts hs); says = holds-says (caseOf verdict.Word.misses t h) e .holds; word = refl }
 gets-by verdict.Word.refused t h e =
     record { answer = answer.Refused (verdictRefusal t h); says = holds-says (caseOf verdict.Word.refused t h) e .holds; word = refl }
 
@@ -95,7 +96,8 @@ both true b e = (refl, e)
 both false b e = (e, cc)
 
 -- Figures whose pairs are the same and whose verdicts are as named are what the promise says.
-says-by : (w : Word) (t h : List ℕ) (i : ℕ) (g : Figures) → g .word ≡ w → Same (pairs w t h i g) → sheets w t h i g ≡ true → SaysBy w t h i g
+says-by : (w : Word) (t h : List ℕ) (i : ℕ) (g : Figures) → g .word ≡ w → Same (pairs w t h i g) → sheets w t h i g ≡ true
+    → SaysBy w t h i g
 unfolding pairs sheets SaysBy
 says-by cost t h i g word (answered, (least, (most, (code, (old, _))))) e =
     let now = gets verdict.Word.fits (withCost t i (g .new)) h in

@@ -18,9 +18,9 @@ pub record Case : Type 0 where
 abbrev case : List ℕ → List ℕ → ℕ → Figures → Case
 case t h i g = record { tasks = t; handlers = h; row = i; told = g }
 
--- 01's case 6, which fits as it is; 4, 9 and 10, which fit with less; 5 and 8, which miss with cost 1 too. A cost far above the period; a short
--- deadline that decides; a task that is not to blame, and the one that is; refusals 1, 2, 3, 13, 4 and 18, the last with one row too many, and
--- each before those that come after it.
+-- 01's case 6, which fits as it is; 5 and 8, which miss with cost 1 too; 4, 9 and 10, which fit with less. A cost far above the period; a
+-- short deadline that decides; a task that is not to blame, and the one that is. Refusals 1, 2, 3, 13, 4 and 18, each before those that come
+-- after it, 18 with one row too many.
 unfoldable pub cases : List Case
 cases =
     case (1 ∷ 3 ∷ 3 ∷ []) (2 ∷ 10 ∷ []) 0 (costOf 1 1)
