@@ -19,8 +19,8 @@ abbrev case : List ℕ → List ℕ → ℕ → Figures → Case
 case t h i g = record { tasks = t; handlers = h; row = i; told = g }
 
 -- 01's case 6, which fits as it is; 5 and 8, which miss with cost 1 too; 4, 9 and 10, which fit with less. A cost far above the period; a
--- short deadline that decides; a task that is not to blame, and the one that is. Refusals 1, 2, 3, 13, 4 and 18, each before those that come
--- after it, 18 with one row too many.
+-- short deadline that decides; a task that is not to blame, and the one that is. Refusals 1, 2, 3, 13, 4 and 18, each where those
+-- that come after it apply too (13 only where there is a task), 18 with one row too many.
 unfoldable pub cases : List Case
 cases =
     case (1 ∷ 3 ∷ 3 ∷ []) (2 ∷ 10 ∷ []) 0 (costOf 1 1)
@@ -34,10 +34,11 @@ cases =
     ∷ case (1 ∷ 4 ∷ 4 ∷ 3 ∷ 12 ∷ 2 ∷ []) [] 1 (costOf 3 2)
     ∷ case (5 ∷ 4 ∷ 4 ∷ 1 ∷ 4 ∷ 4 ∷ []) [] 1 (noneOf 1)
     ∷ case (5 ∷ 4 ∷ 4 ∷ 1 ∷ 4 ∷ 4 ∷ []) [] 0 (costOf 5 3)
-    ∷ case (1 ∷ 4 ∷ 4 ∷ 1 ∷ []) [] 1 (refusalOf 1)
-    ∷ case [] [] 0 (refusalOf 2)
-    ∷ case (0 ∷ 4 ∷ 5 ∷ []) [] 1 (refusalOf 3)
-    ∷ case (1 ∷ 4 ∷ 5 ∷ []) [] 1 (refusalOf 13)
+    ∷ case (1 ∷ []) (0 ∷ 1001 ∷ 0 ∷ 1000000 ∷ []) 0 (refusalOf 1)
+    ∷ case (1 ∷ 4 ∷ 5 ∷ 1 ∷ []) [] 1 (refusalOf 1)
+    ∷ case [] (0 ∷ 1001 ∷ 0 ∷ 1000000 ∷ []) 0 (refusalOf 2)
+    ∷ case (0 ∷ 1001 ∷ 1002 ∷ 1 ∷ 1000000 ∷ 1 ∷ []) [] 2 (refusalOf 3)
+    ∷ case (1 ∷ 1001 ∷ 1002 ∷ 1 ∷ 1000000 ∷ 1 ∷ []) [] 2 (refusalOf 13)
     ∷ case (1 ∷ 1001 ∷ 1001 ∷ 1 ∷ 1000000 ∷ 1000000 ∷ []) [] 2 (refusalOf 4)
     ∷ case (1 ∷ 3 ∷ 3 ∷ []) (2 ∷ 10 ∷ []) 1 (refusalOf 18)
     ∷ []
