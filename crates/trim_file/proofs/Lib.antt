@@ -1,3 +1,5 @@
+pub mod Named
 pub mod Printed
 pub mod Written
 pub mod Whole
+pub mod Pages

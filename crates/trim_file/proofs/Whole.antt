@@ -34,7 +34,7 @@ use Rattle.trim_file.specs.Printed.Outcome.{refused, none, cost}
 use Rattle.trim_file.specs.Whole.{outputOf, AnswerIn, Comes, Answered, OutcomeSays, TrimmedSays, OneTrim}
 use Rattle.trim_file.specs.declared.Output.{Output}
 
-clash : (P : Type 0) → true ≡ false → P
+pub clash : (P : Type 0) → true ≡ false → P
 clash P e =
     let z : _≡_ {A = ℕ} 0 1 = cc in
     let f : ⊥ = omega arith in
@@ -66,13 +66,13 @@ module _ (t h : List ℕ) (i : ℕ) (a : Answer) where
 -- ---- an answer with a cost
 
 -- which kind of answer
-isCost : Answer → Bool
+unfoldable pub isCost : Answer → Bool
 isCost (answer.Cost old new) = true
 isCost (answer.None old) = false
 isCost (answer.Refused k) = false
 
 -- It is of a task that is in the table, and says its present cost.
-cost-told : (m : Bool) (t h : List ℕ) (i old new : ℕ) → AnswerIn m t h i (answer.Cost old new) → (i < length (tasksOf t)) × (old ≡ costAt t i)
+pub cost-told : (m : Bool) (t h : List ℕ) (i old new : ℕ) → AnswerIn m t h i (answer.Cost old new) → (i < length (tasksOf t)) × (old ≡ costAt t i)
 unfolding AnswerIn TrimSays Says SaysBy figures isCost
 cost-told true t h i old new e = clash _ (ap isCost e)
 cost-told false t h i old new says =
@@ -93,10 +93,10 @@ ending bs es file = go (file .written)
 
 module _ (bs : List ℕ) (es : List Entry) (i : ℕ) (file : FileSays bs es) where
   -- The row of a task of the table is one of the file, and its cost the same.
-  row-in : i < length (tasksOf (listOf Task es)) → i < tasksIn es
+  pub row-in : i < length (tasksOf (listOf Task es)) → i < tasksIn es
   row-in h = omega (arith, table-changed .many es)
 
-  cost-in : costAt (listOf Task es) i ≡ costIn es i
+  pub cost-in : costAt (listOf Task es) i ≡ costIn es i
   unfolding costAt
   cost-in = sym (table-changed .changed es i 0 .present)
 

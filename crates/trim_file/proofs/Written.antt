@@ -43,7 +43,7 @@ number-text n b r e f =
 
 -- ---- a page
 
-blank-length : length (replicate {A = ℕ} pageMost 0) ≡ pageMost
+pub blank-length : length (replicate {A = ℕ} pageMost 0) ≡ pageMost
 blank-length = length-replicate {A = ℕ} pageMost 0
 
 pub bare-written : bareSheet ≡ written []

@@ -1,5 +1,6 @@
 // Trimming a table file: the bytes of a file and a row in, two printed lines and the bytes of the new file out.
 mod lines;
+pub mod names;
 mod write;
 
 ghost use mathlib.Core.List.{[]};
