@@ -4,7 +4,8 @@ pub mod guard_rows;
 pub mod held_by_column;
 pub mod trimmed;
 
-ghost use Rattle.cowriedash.specs.Numbers.{demandNumbers, handlerNumbers, VerdictTold, HandlerTold, TaskTold, MarginFigured, MarginTold};
+ghost use Rattle.cowriedash.specs.Numbers.{demandNumbers, handlerNumbers, MarginFigured};
+ghost use Rattle.cowriedash.specs.Numbers.{VerdictTold, HandlerTold, TaskTold, MarginTold};
 ghost use mathlib.Core.Path.{_≡_};
 use demand::DemandAnswer;
 use demand::HandlerAnswer;

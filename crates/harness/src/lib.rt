@@ -97,8 +97,8 @@ pub extern "C" fn harness_fresh_by_column(
     owed: &mut [u64; PLACES],
     figures: &mut [u64; FIGURES],
 )
-    ensures { λ _. ⌜ FreshLaid (rowOrder Task (now (tasks .entry))) (rowOrder Handler (now (handlers .entry))) (now (t .exit)) (now (h .exit))
-        (now (next .exit)) (now (due .exit)) (now (owed .exit)) (now (figures .exit)) ⌝ }
+    ensures { λ _. ⌜ FreshLaid (rowOrder Task (now (tasks .entry))) (rowOrder Handler (now (handlers .entry)))
+        (now (t .exit)) (now (h .exit)) (now (next .exit)) (now (due .exit)) (now (owed .exit)) (now (figures .exit)) ⌝ }
 {
     lay_fresh(true, tasks, handlers, t, h, next, due, owed, figures);
 }

@@ -1,4 +1,4 @@
-// A fresh run of a table that is held by column. Apart from the other calls, so that a licensee who takes only the verdict has no scheduler.
+// A fresh run of a table that is held by column. Apart from the other calls, so that who takes only the verdict has no scheduler.
 ghost use Rattle.columns.specs.Order.{rowOrder};
 ghost use Rattle.demand.specs.declared.table.Kind.the-variants.{Task, Handler};
 ghost use Rattle.scheduler.specs.Promise.{FreshSays};

@@ -3,7 +3,8 @@
 --   added sheet bs     == the bytes bs more, behind what is written
 --   written xs         == a page on which xs is written
 --   Short text         its length counts bytes of its space
---   Replaces bs i old  the digits of the number old stand in bs where the search for the cost of task i stops, and bs is no longer than a file
+--   Replaces bs i old  the digits of the number old stand in bs where the search for the cost of task i stops, and bs is no
+--                      longer than a file may be
 --   CanWrite bs i a    where the answer a has a cost, its digits stand there
 --   outputBy bs i a    == what is written of the answer a
 use mathlib.Core.List.{List, []}

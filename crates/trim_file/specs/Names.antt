@@ -1,4 +1,4 @@
--- Names of tasks (02, M-112: a planner names one task; 01, case 13 for their form): `T` and the row in decimal, from 0, with no leading zero.
+-- Names of tasks (02, M-112; 01, case 13 for their form): `T` and the row in decimal, from 0, with no leading zero.
 --   rowLimit       == the first number of more than 7 digits: the row of no table
 --   digitsFrom v bs   == the number that begins with the digits of v and goes on with bs, rowLimit where bs are no digits of it
 --   rowNamed bs    == the row that the name bs says, rowLimit where it is no task's name

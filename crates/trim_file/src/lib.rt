@@ -65,8 +65,8 @@ fn of_answer(input: &[u8], row: usize, answer: Answer) -> Output
     }
 }
 
-// From the bytes of a table file and the row of a task to the printed lines, and to the bytes of the table with that task's cost lowered as far
-// as it must be.
+// From the bytes of a table file and the row of a task to the printed lines, and to the bytes of the table with that task's cost
+// lowered as far as it must be.
 pub fn trimmed(input: &[u8], row: usize) -> Output
     ensures { λ r. ⌜ TrimmedSays (now (input .entry)) row r ⌝ }
 {

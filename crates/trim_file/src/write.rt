@@ -75,7 +75,8 @@ pub fn lines_alone(text: Text, refusal: u32) -> Output
 // The lines, and the file with the digits of the old cost replaced by those of the new one.
 pub fn with_file(input: &[u8], row: usize, old: u32, new: u32) -> Output
     requires { ⌜ Replaces (now input) row old ⌝ }
-    ensures { λ r. ⌜ r ≡ outputOf (costLines row 0 old new) (recosted (now (input .entry)) (costFrom (now (input .entry)) row) old new) 0 ⌝ }
+    ensures { λ r. ⌜ r ≡ outputOf (costLines row 0 old new)
+        (recosted (now (input .entry)) (costFrom (now (input .entry)) row) old new) 0 ⌝ }
 {
     let at = recost::cost_from(input, row);
     let was = text::number(text::blank(), old as u64);

@@ -1,7 +1,7 @@
-// Reads a table from standard input and the name of a task as its argument, `T0` for the first, and prints two lines with the old and the new
-// cost of that task, the greatest at which the table fits; behind them, where there is one, the table with that one cost changed. On a
-// refusal its number and English line go to standard error. Where the input could not be read to its end, or what there is not written
-// whole, a line on standard error says so.
+// Reads a table from standard input and the name of a task as its argument, `T0` for the first. Prints two lines with the old and the
+// new cost of that task, the greatest at which the table fits; behind them, where there is one, the table with that one cost changed.
+// On a refusal its number and English line go to standard error. Where the input could not be read to its end, or what there is not
+// written whole, a line on standard error says so.
 use layout::reader::FILE_MOST;
 use libc::STDERR_FILENO;
 use libc::STDIN_FILENO;
