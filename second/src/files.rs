@@ -72,9 +72,14 @@ pub fn sheet(bytes: &[u8], patience: u128) -> Result<String, u128> {
     Ok(format!("verdict,code,interval,handler,task,load,left,tested\r\n{word},{}\r\n", numbers.join(",")))
 }
 
-/// A table as text under either header, and then perhaps damaged.
+/// A table as text, and then perhaps damaged.
 pub fn file(random: &mut Random) -> Vec<u8> {
     let table = if random.chance(4) { tables::hostile(random) } else { tables::small(random) };
+    text_of(random, &table, 2)
+}
+
+/// A table as text under either header, its rows in any order of kinds, damaged with a chance of one in so many.
+pub fn text_of(random: &mut Random, table: &Table, damaged: u64) -> Vec<u8> {
     let old = random.chance(3);
     let mut rows: Vec<String> = Vec::new();
     for r in table.tasks.chunks_exact(3) {
@@ -96,7 +101,7 @@ pub fn file(random: &mut Random) -> Vec<u8> {
         text += "\r\n";
     }
     let mut bytes = text.into_bytes();
-    if random.chance(2) {
+    if random.chance(damaged) {
         damage(random, &mut bytes);
     }
     bytes
@@ -120,7 +125,14 @@ pub fn damage(random: &mut Random, bytes: &mut Vec<u8>) {
 
 /// What the program prints for a file.
 pub fn run(program: &str, bytes: &[u8]) -> String {
-    let mut child = Command::new(program).stdin(Stdio::piped()).stdout(Stdio::piped()).stderr(Stdio::null()).spawn().expect("the program fit");
+    run_with(program, &[], bytes)
+}
+
+/// The same with arguments.
+pub fn run_with(program: &str, arguments: &[&str], bytes: &[u8]) -> String {
+    let mut command = Command::new(program);
+    command.args(arguments).stdin(Stdio::piped()).stdout(Stdio::piped()).stderr(Stdio::null());
+    let mut child = command.spawn().expect("the program");
     // A program that has read 4,097 bytes may end before all is written.
     let _ = child.stdin.take().expect("its standard input").write_all(bytes);
     let output = child.wait_with_output().expect("its output");

@@ -1,8 +1,10 @@
 //! Compares the proved library with the slow second program on many tables.
-//!     second SEED COUNT FIT ANSWERS BY_PRIORITY GUARD_ROWS
+//!     second SEED COUNT FIT ANSWERS BY_PRIORITY GUARD_ROWS TRIM_TABLE
 //!                                      COUNT tables of each kind through the program ANSWERS (second/answers.c), and as many files
-//!                                      through the programs FIT, BY_PRIORITY and GUARD_ROWS; ends with status 1 at the first difference,
-//!                                      and prints what shows it
+//!                                      through the programs FIT, BY_PRIORITY, GUARD_ROWS and TRIM_TABLE; ends with status 1 at the first
+//!                                      difference, and prints what shows it
+//!     second trim PATIENCE TASK        reads a table file from standard input and prints what `trim_table` must print of that task, every
+//!                                      cost from the present one downward tried
 //!     second guards PATIENCE           reads a file of guards from standard input and prints the lines that `guard_rows` must print
 //!     second priority PATIENCE         the same of the lines that `by_priority` must print; every length up to the deadline is tried
 //!     second fit PATIENCE              reads a table file from standard input and prints the lines that `fit` must print, or, where no length up
@@ -21,6 +23,7 @@ mod scheduler;
 mod steps;
 mod tables;
 mod trim;
+mod trim_files;
 mod units;
 
 use random::Random;
@@ -216,8 +219,20 @@ fn read_all(random: &mut Random, count: u64, program: &str, made: fn(&mut Random
     (compared, broken)
 }
 
+/// Files trimmed by a program, damaged ones among them.
+fn trim_all(random: &mut Random, count: u64, program: &str) -> trim_files::Counts {
+    let mut counts = trim_files::Counts::default();
+    for _ in 0..count {
+        if let Err(what) = trim_files::compare(random, program, &mut counts) {
+            println!("DIFFERENT trimmed file: {what}");
+            exit(1);
+        }
+    }
+    counts
+}
+
 /// What a program must print of the table file on standard input.
-fn print_lines(command: &str, patience: u128) {
+fn print_lines(command: &str, patience: u128, task: &str) {
     let mut file = vec![];
     // One byte more than a file may have, so that a longer one is known as such.
     if let Err(error) = std::io::stdin().take(4097).read_to_end(&mut file) {
@@ -225,10 +240,13 @@ fn print_lines(command: &str, patience: u128) {
         exit(3);
     }
     match command {
-        "fit" => match files::sheet(&file, patience) {
-            Ok(lines) => print!("{lines}"),
-            Err(length) => println!("patience {patience} {length}"),
-        },
+        "fit" | "trim" => {
+            let told = if command == "fit" { files::sheet(&file, patience) } else { trim_files::lines(&file, task, patience, u32::MAX) };
+            match told {
+                Ok(lines) => print!("{lines}"),
+                Err(length) => println!("patience {patience} {length}"),
+            }
+        }
         "guards" => print!("{}", guard_files::lines(&file)),
         // No deadline is longer than a million ticks.
         _ => print!("{}", priority::lines(&file, model::FIGURE).unwrap()),
@@ -237,15 +255,17 @@ fn print_lines(command: &str, patience: u128) {
 
 fn main() {
     let words: Vec<String> = std::env::args().skip(1).collect();
-    if let [command, patience] = &words[..] {
-        match (command.as_str(), patience.parse()) {
-            (command @ ("fit" | "priority" | "guards"), Ok(patience)) => return print_lines(command, patience),
+    if let [command, patience, task @ ..] = &words[..] {
+        match (command.as_str(), patience.parse(), task) {
+            (command @ ("fit" | "priority" | "guards"), Ok(patience), []) => return print_lines(command, patience, ""),
+            ("trim", Ok(patience), [task]) => return print_lines("trim", patience, task),
             _ => {}
         }
     }
     let numbers: Vec<u64> = words.iter().filter_map(|a| a.parse().ok()).collect();
-    let ([seed, count], [_, _, program, answers, ranked, guarded]) = (&numbers[..], &words[..]) else {
-        eprintln!("usage: second SEED COUNT FIT ANSWERS BY_PRIORITY GUARD_ROWS, or second fit, priority or guards PATIENCE");
+    let ([seed, count], [_, _, program, answers, ranked, guarded, trimming]) = (&numbers[..], &words[..]) else {
+        eprintln!("usage: second SEED COUNT FIT ANSWERS BY_PRIORITY GUARD_ROWS TRIM_TABLE,");
+        eprintln!("or second fit, priority or guards PATIENCE, or second trim PATIENCE TASK");
         exit(2);
     };
     proved::start(answers);
@@ -316,4 +336,9 @@ fn main() {
     println!("seed {seed}: {compared} files compared by priority ({broken} broken), 0 differences");
     let (compared, broken) = read_all(&mut random, count, guarded, guard_files::file, |file| Some(guard_files::lines(file)));
     println!("seed {seed}: {compared} files of guards compared ({broken} broken), 0 differences");
+    let files = trim_all(&mut random, count, trimming);
+    println!(
+        "seed {seed}: {} files trimmed ({} new ones, {} of them with a lower cost; {} with none, {} broken, {} refused by 18), 0 differences",
+        files.all, files.files, files.lowered, files.none, files.broken, files.missing
+    );
 }

@@ -6,9 +6,9 @@ use crate::random::Random;
 use crate::tables::{self, Table};
 
 /// How far a verdict is searched.
-const PATIENCE: u128 = 3_000;
+pub const PATIENCE: u128 = 3_000;
 /// The greatest cost below which each one is tried.
-const COSTS: u32 = 300;
+pub const COSTS: u32 = 300;
 
 #[derive(Default)]
 pub struct Counts {
@@ -22,33 +22,32 @@ pub struct Counts {
 }
 
 /// The refusal's number or 0, the present cost, and the new one or 0 for none: every cost is tried, from the present one downward.
-/// Nothing where that takes too long.
-fn trim(table: &Table, row: u64) -> Option<[u64; 3]> {
-    let sheet = model::verdict(&table.tasks, &table.handlers, PATIENCE).ok()?;
-    if sheet[0] == 2 {
-        return Some([sheet[1], 0, 0]);
+/// Where a blind search would have to go further than `patience`, that length; where there are more than `costs` of them, their count.
+pub fn trim(table: &Table, row: u64, patience: u128, costs: u32) -> Result<[u64; 3], u128> {
+    if let Err(k) = model::figures(&table.tasks, &table.handlers) {
+        return Ok([k as u64, 0, 0]);
     }
     let tasks: Vec<&[u32]> = table.tasks.chunks_exact(3).collect();
     if row >= tasks.len() as u64 {
-        return Some([18, 0, 0]);
+        return Ok([18, 0, 0]);
     }
     let old = tasks[row as usize][0];
-    if old > COSTS {
-        return None;
+    if old > costs {
+        return Err(old as u128);
     }
     let mut lowered = table.tasks.clone();
     for cost in (1..=old).rev() {
         lowered[3 * row as usize] = cost;
-        if model::verdict(&lowered, &table.handlers, PATIENCE).ok()?[0] == 0 {
-            return Some([0, old as u64, cost as u64]);
+        if model::verdict(&lowered, &table.handlers, patience)?[0] == 0 {
+            return Ok([0, old as u64, cost as u64]);
         }
     }
-    Some([0, old as u64, 0])
+    Ok([0, old as u64, 0])
 }
 
 /// Both answers for a task of a table; an error shows them.
 fn check(table: &Table, row: u64, counts: &mut Counts) -> Result<(), String> {
-    let Some(want) = trim(table, row) else { return Ok(()) };
+    let Ok(want) = trim(table, row, PATIENCE, COSTS) else { return Ok(()) };
     let got = proved::trim(&table.tasks, &table.handlers, row);
     if got != want {
         let Table { tasks, handlers } = table;
@@ -67,7 +66,7 @@ fn check(table: &Table, row: u64, counts: &mut Counts) -> Result<(), String> {
 }
 
 /// A small table in slower ticks, so that there is room, and any cost for one of its tasks.
-fn heavy(random: &mut Random) -> (Table, u64) {
+pub fn heavy(random: &mut Random) -> (Table, u64) {
     let mut table = tables::small(random);
     let slower = random.from_to(2, 4) as u32;
     table.tasks.chunks_exact_mut(3).for_each(|r| r[1..].iter_mut().for_each(|n| *n *= slower));
