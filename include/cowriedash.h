@@ -58,20 +58,6 @@ enum { COWRIEDASH_TASKS_MOST = 64 };
 uint32_t cowriedash_responses(const uint32_t *tasks, size_t tasks_count, const uint32_t *handlers, size_t handlers_count,
                               uint64_t out[64]);
 
-/* The same calls for a table held by column: tasks as all costs, then all periods, then all deadlines; handlers as all costs, then all
-   periods. Each answers what the call above answers for the same rows one after the other, refusals included; a count of tasks that is no
-   multiple of 3, or one of handlers that is none of 2, is refusal 1 in both. At most 224 numbers are copied, on the stack. */
-void cowriedash_verdict_by_column(const uint32_t *tasks, size_t tasks_count, const uint32_t *handlers, size_t handlers_count,
-                                  uint64_t out[COWRIEDASH_NUMBERS]);
-void cowriedash_handler_demand_by_column(const uint32_t *tasks, size_t tasks_count, const uint32_t *handlers,
-                                         size_t handlers_count, uint64_t l, uint64_t out[3]);
-void cowriedash_task_demand_by_column(const uint32_t *tasks, size_t tasks_count, const uint32_t *handlers,
-                                      size_t handlers_count, uint64_t l, uint64_t out[2]);
-uint32_t cowriedash_margin_by_column(const uint32_t *tasks, size_t tasks_count, const uint32_t *handlers,
-                                     size_t handlers_count, uint64_t l, int64_t *out, uint64_t *left);
-uint32_t cowriedash_responses_by_column(const uint32_t *tasks, size_t tasks_count, const uint32_t *handlers,
-                                        size_t handlers_count, uint64_t out[64]);
-
 /* How many counts a guard has: N, int, flip, setup, work, expire, count, clear, gap, in this order. */
 enum { COWRIEDASH_COUNTS = 9 };
 
@@ -88,6 +74,22 @@ enum { COWRIEDASH_TRIM_NUMBERS = 3 };
    table fits already, 0 where no cost from 1 fits. The list itself is not changed. Takes the time of 22 verdicts at most. */
 void cowriedash_trim(const uint32_t *tasks, size_t tasks_count, const uint32_t *handlers, size_t handlers_count, size_t row,
                      uint64_t out[COWRIEDASH_TRIM_NUMBERS]);
+
+/* The calls on a table for one held by column: tasks as all costs, then all periods, then all deadlines; handlers as all costs, then all
+   periods. Each answers what the call without by_column answers for the same rows one after the other, refusals included; a count of tasks that is no
+   multiple of 3, or one of handlers that is none of 2, is refusal 1 in both. At most 224 numbers are copied, on the stack. */
+void cowriedash_verdict_by_column(const uint32_t *tasks, size_t tasks_count, const uint32_t *handlers, size_t handlers_count,
+                                  uint64_t out[COWRIEDASH_NUMBERS]);
+void cowriedash_handler_demand_by_column(const uint32_t *tasks, size_t tasks_count, const uint32_t *handlers,
+                                         size_t handlers_count, uint64_t l, uint64_t out[3]);
+void cowriedash_task_demand_by_column(const uint32_t *tasks, size_t tasks_count, const uint32_t *handlers,
+                                      size_t handlers_count, uint64_t l, uint64_t out[2]);
+uint32_t cowriedash_margin_by_column(const uint32_t *tasks, size_t tasks_count, const uint32_t *handlers,
+                                     size_t handlers_count, uint64_t l, int64_t *out, uint64_t *left);
+uint32_t cowriedash_responses_by_column(const uint32_t *tasks, size_t tasks_count, const uint32_t *handlers,
+                                        size_t handlers_count, uint64_t out[64]);
+void cowriedash_trim_by_column(const uint32_t *tasks, size_t tasks_count, const uint32_t *handlers, size_t handlers_count,
+                               size_t row, uint64_t out[COWRIEDASH_TRIM_NUMBERS]);
 
 #ifdef __cplusplus
 }

@@ -113,7 +113,7 @@ static void answer(uint64_t question) {
         break;
     case 10:
         table();
-        cowriedash_trim(tasks, tasks_count, handlers, handlers_count, number(), out);
+        (by_column ? cowriedash_trim_by_column : cowriedash_trim)(tasks, tasks_count, handlers, handlers_count, number(), out);
         put(out, COWRIEDASH_TRIM_NUMBERS * sizeof *out);
         break;
     default:

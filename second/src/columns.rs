@@ -12,15 +12,16 @@ fn by_column(list: &[u32], width: usize) -> Vec<u32> {
     (0..width).flat_map(|figure| list.chunks(width).map(move |row| row[figure])).collect()
 }
 
-/// Each question by its number, with the size of its answer: verdict, handler demand, task demand, margin, fresh, responses.
-const QUESTIONS: [(u64, usize); 6] = [(1, 64), (2, 24), (3, 16), (4, 24), (5, 2760), (7, 520)];
+/// Each question by its number, with the size of its answer: verdict, handler demand, task demand, margin, fresh, responses, trim.
+const QUESTIONS: [(u64, usize); 7] = [(1, 64), (2, 24), (3, 16), (4, 24), (5, 2760), (7, 520), (10, 24)];
 
 /// What the number of a question has on top where the table is held by column.
 const BY_COLUMN: u64 = 100;
 
 fn answer(question: u64, size: usize, table: &Table, l: u64) -> Vec<u8> {
     let asked = Laid::question(question).list(&table.tasks).list(&table.handlers);
-    let asked = if matches!(question % BY_COLUMN, 2 | 3 | 4) { asked.number(l) } else { asked };
+    // The length that is asked about, or the row of the task.
+    let asked = if matches!(question % BY_COLUMN, 2 | 3 | 4 | 10) { asked.number(l) } else { asked };
     asked.answer(size).rest()
 }
 
@@ -35,7 +36,7 @@ fn uneven(random: &mut Random, list: &[u32]) -> Vec<u32> {
     list
 }
 
-/// Six calls on a table and on the same held by column; an error says which differ.
+/// All calls on a table and on the same held by column; an error says which differ.
 pub fn compare(random: &mut Random, table: &Table) -> Result<(), String> {
     let rows = Table { tasks: uneven(random, &table.tasks), handlers: uneven(random, &table.handlers) };
     let columns = Table { tasks: by_column(&rows.tasks, 3), handlers: by_column(&rows.handlers, 2) };

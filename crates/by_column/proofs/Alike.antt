@@ -23,6 +23,11 @@ use Rattle.priority.specs.Answers.{noLengths, ResponsesSay}
 use Rattle.priority.specs.declared.Answer.the-variants as profile
 use Rattle.priority.specs.declared.Profile.{Profile}
 use Rattle.priority.proofs.Answers.{refused-says, responses-unique}
+use Rattle.trim.specs.Promise.{TrimSays}
+use Rattle.trim.specs.declared.Answer as trimmed
+use Rattle.trim.specs.declared.Answer.the-variants as trim
+use Rattle.trim.proofs.Answers as answers
+use Rattle.trim.proofs.Answers.{trim-unique}
 use Rattle.verdict.specs.Promise.{VerdictSays}
 use Rattle.verdict.specs.declared.Answer.{Answer}
 use Rattle.verdict.specs.declared.Answer.the-variants as answer
@@ -32,6 +37,12 @@ use Rattle.verdict.proofs.Promise.{verdict-unique}
 -- Where a number is given, the answer is that number's.
 given : {A : Type 0} (k : ℕ) (x y : A) → 0 < k → pick (eqb k 0) x y ≡ y
 given k x y some = ap (λ b. pick b x y) (ne-eqb k 0 (λ z. omega arith))
+
+-- A table with a refusal of its own is not trimmed.
+refused-trim : (t h : List ℕ) (i : ℕ) → 0 < tableRefusal t h → TrimSays t h i (trim.Refused (tableRefusal t h))
+refused-trim t h i some =
+    let k = tableRefusal t h in
+    answers.says-refused t h i (answer.Refused k) k (says-refused t h k refl some) refl
 
 module _ (t h t' h' : List ℕ) (alike : Alike t h t' h') where
   there : 0 < tableRefusal t' h'
@@ -80,3 +91,10 @@ module _ (t h t' h' : List ℕ) (alike : Alike t h t' h') where
       let none : Profile = record { answer = profile.Refused k; least = noLengths } in
       let is = responses-unique t h p none says (refused-says t h noLengths k refl (λ z. omega (arith, alike .some)) refl) in
       subst (ResponsesSay t' h') (sym is) (refused-says t' h' noLengths k (alike .same) (λ z. omega (arith, there)) refl)
+
+  pub trim-alike : (i : ℕ) (r : trimmed.Answer) → TrimSays t h i r → TrimSays t' h' i r
+  trim-alike i r says =
+      let k = tableRefusal t h in
+      let none = refused-trim t h i (alike .some) in
+      let is = trim-unique t h i r (trim.Refused k) says none in
+      subst (TrimSays t' h' i) (sym is) (subst (λ (n : ℕ). TrimSays t' h' i (trim.Refused n)) (sym (alike .same)) (refused-trim t' h' i there))

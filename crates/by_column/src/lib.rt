@@ -7,6 +7,7 @@ ghost use Rattle.demand.specs.Refusals.{askedRefusal};
 ghost use Rattle.demand.specs.Rows.{tasksOf, handlersOf};
 ghost use Rattle.demand.specs.declared.table.Kind.the-variants.{Task, Handler};
 ghost use Rattle.priority.specs.Answers.{ResponsesSay};
+ghost use Rattle.trim.specs.Promise.{TrimSays};
 ghost use Rattle.verdict.specs.Promise.{VerdictSays};
 use demand::DemandAnswer;
 use demand::HandlerAnswer;
@@ -80,4 +81,17 @@ pub fn responses(tasks: &[u32], handlers: &[u32]) -> Profile
     let t = table.tasks.numbers;
     let h = table.handlers.numbers;
     priority::responses(&t[..table.tasks.len], &h[..table.handlers.len])
+}
+
+// The greatest cost of the task at row at which a table held by column fits.
+pub fn trim(tasks: &[u32], handlers: &[u32], row: usize) -> trim::Answer
+    ensures { λ r. ⌜ TrimSays (rowOrder Task (now (tasks .entry))) (rowOrder Handler (now (handlers .entry))) row r ⌝ }
+{
+    let table = columns::in_row_order(tasks, handlers);
+    if !table.held {
+        return trim::trim(tasks, handlers, row);
+    }
+    let t = table.tasks.numbers;
+    let h = table.handlers.numbers;
+    trim::trim(&t[..table.tasks.len], &h[..table.handlers.len], row)
 }

@@ -2,6 +2,7 @@
 ghost use Rattle.columns.specs.Order.{rowOrder};
 ghost use Rattle.cowriedash.specs.ByPriority.{ResponsesTold};
 ghost use Rattle.cowriedash.specs.Numbers.{VerdictTold, HandlerTold, TaskTold, MarginTold};
+ghost use Rattle.cowriedash.specs.Trimmed.{TrimTold};
 ghost use Rattle.demand.specs.declared.table.Kind.the-variants.{Task, Handler};
 use crate::by_priority::number_of;
 use crate::demand_numbers;
@@ -82,4 +83,18 @@ pub extern "C" fn cowriedash_responses_by_column(
     let answer = profile.answer;
     *out = least;
     number_of(answer)
+}
+
+// The greatest cost of the task at row at which a table held by column fits.
+#[no_mangle]
+pub extern "C" fn cowriedash_trim_by_column(
+    tasks: &[u32],
+    handlers: &[u32],
+    row: usize,
+    out: &mut [u64; trim::NUMBERS],
+)
+    ensures { λ _. ⌜ TrimTold (rowOrder Task (now (tasks .entry))) (rowOrder Handler (now (handlers .entry))) row (now (out .exit)) ⌝ }
+{
+    let answer = by_column::trim(tasks, handlers, row);
+    *out = trim::numbers(answer);
 }
