@@ -1,2 +1,2 @@
--- What no promise cites: where the code finds a cost.
+-- Where the code finds a cost: no promise about files cites it.
 pub mod Scan

@@ -1,4 +1,4 @@
--- How the code finds the cost of a task in a file. No promise cites this.
+-- How the code finds the cost of a task in a file: what `cost_from` promises. What that finds is said in Rewritten.
 --   opens b bs         == the byte b ends a line and the bytes bs behind it begin with that of a task: an LF and a `t`
 --   costFrom bs k      == how far into bs the cost of task k begins: behind the LF and `task,`; past the end where there is none
 --   recosted bs at old new   == the bytes bs with the digits of the number old, which begin at place `at`, replaced by those of new
