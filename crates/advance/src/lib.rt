@@ -1,4 +1,6 @@
 // A run over a stretch without arrivals: piece by piece, in each of which one row alone, or nobody, gets every tick.
+#![tactic(auto)]
+
 mod alone;
 mod quiet;
 

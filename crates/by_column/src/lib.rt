@@ -1,5 +1,7 @@
 // The calls on a table for one that is held by column: all costs, then all periods, then all deadlines. Each puts the table into row order
 // once and asks the call for rows; a table that its counts refuse is handed on as it is, and not copied.
+#![tactic(auto)]
+
 ghost use Rattle.columns.specs.Order.{row_order};
 ghost use Rattle.demand.specs.Answers.{DemandSays, HandlerSays, MarginSays};
 ghost use Rattle.demand.specs.Demands.{due};

@@ -7,14 +7,14 @@ use charges::figures::Word;
 use text::Text;
 
 // A way of charging.
-#[derive(Drop)]
+#[derive(Clone, Copy)]
 pub enum Way {
     Exact,
     Quantum,
     Task,
 }
 
-#[derive(Drop)]
+#[derive(Clone, Copy)]
 pub struct Counts {
     pub fits: u64,
     pub misses: u64,

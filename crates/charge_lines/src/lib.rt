@@ -1,4 +1,6 @@
 // The lines of charged tables, and how many of them fit, miss or say nothing.
+#![tactic(auto)]
+
 pub mod counts;
 pub mod files;
 mod names;

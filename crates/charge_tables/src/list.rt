@@ -2,7 +2,7 @@
 ghost use Rattle.std.specs.Prelude.{◌≡◌, ◌≤◌, length};
 
 // A name of so many bytes; or that the list is over, and whether by a read that failed.
-#[derive(Drop)]
+#[derive(Clone, Copy)]
 pub struct Name {
     pub count: usize,
     pub over: bool,
@@ -10,7 +10,7 @@ pub struct Name {
 }
 
 // A byte, or that there is none.
-#[derive(Drop)]
+#[derive(Clone, Copy)]
 struct Byte {
     value: u8,
     over: bool,

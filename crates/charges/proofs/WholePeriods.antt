@@ -13,6 +13,7 @@ use Rattle.demand.specs.Rows.{Row, Positive, total}
 use Rattle.demand.proofs.Inside.Sizes.{fair-positive}
 use Rattle.demand.proofs.Periods.{lcm-from-nil, lcm-from-cons, lcm-from-positive, lcm-from-rows}
 use Rattle.demand.proofs.Sums.{total-nil, total-cons}
+use Rattle.euclid.specs.Euclid.{lcm}
 use Rattle.verdict.specs.Loads.{work, whole, millionths, load}
 use Rattle.verdict.specs.Multiples.{common}
 use Rattle.verdict.proofs.Loads.{work-nil, work-cons}
@@ -21,7 +22,7 @@ use Rattle.verdict.proofs.Loads.{work-nil, work-cons}
 grown-lcm : (g : Row → ℕ) (a : ℕ) (ts : List Row) → lcm_from a (grown g ts) ≡ lcm_from a ts
 unfolding grown lcm_from
 grown-lcm g a [] = refl
-grown-lcm g a (r ∷ rs) = grown-lcm g _ rs
+grown-lcm g a (r ∷ rs) = grown-lcm g (lcm a r.period) rs
 
 -- What a grown cost brings over a multiple h of its period p: h for each whole period, and the rest.
 row-parts : (c p h : ℕ) → p ∣ h → c * (h / p) ≡ c / p * h + c % p * (h / p)

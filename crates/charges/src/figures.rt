@@ -4,7 +4,7 @@ ghost use Rattle.charges.specs.Figures.{exact_word, charge_word, charge_load, ch
 
 use crate::{Answer, Charge};
 
-#[derive(Drop)]
+#[derive(Clone, Copy)]
 pub enum Word {
     Fits,
     Misses,
@@ -13,7 +13,7 @@ pub enum Word {
 }
 
 // The exact verdict's word, number and load, then the word and load of each other charge; what does not apply is 0.
-#[derive(Drop)]
+#[derive(Clone, Copy)]
 pub struct Figures {
     pub exact: Word,
     pub code: u64,

@@ -1,4 +1,6 @@
 // Three ways of charging handlers: the exact verdict, by whole quanta, and by task.
+#![tactic(auto)]
+
 pub mod figures;
 mod formula;
 mod ways;
@@ -13,7 +15,7 @@ use demand::table::Kind;
 use ways::{MILLION, Way};
 
 // What a way of charging comes to: the load fits, it misses, or the way says nothing of such a table.
-#[derive(Drop)]
+#[derive(Clone, Copy)]
 pub enum Charge {
     Fits { load: u64 },
     Misses { load: u64 },
@@ -21,7 +23,7 @@ pub enum Charge {
 }
 
 // The exact verdict beside the two other charges; or the number of the refusal.
-#[derive(Drop)]
+#[derive(Clone, Copy)]
 pub enum Answer {
     Charged {
         exact: verdict::Answer,

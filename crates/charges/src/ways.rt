@@ -12,7 +12,7 @@ use demand::table::{Kind, Row};
 use demand::{multiples, table};
 
 // Whole quanta of which so many ticks are useful, or what handlers take of the task's own period.
-#[derive(Drop)]
+#[derive(Clone, Copy)]
 pub enum Way {
     Quantum { ticks: u64, useful: u64 },
     Task,
@@ -22,7 +22,7 @@ pub enum Way {
 pub const MILLION: u64 = 1_000_000;
 
 // Of all grown costs the whole periods, and the work that their rests bring over H.
-#[derive(Drop)]
+#[derive(Clone, Copy)]
 pub struct Sums {
     pub periods: u64,
     pub rest: u64,

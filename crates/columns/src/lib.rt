@@ -1,4 +1,6 @@
 // Tables held by column: all costs, then all periods, then all deadlines. Put into row order once, here and nowhere else.
+#![tactic(auto)]
+
 ghost use Rattle.std.specs.Prelude.{false, ◌≡◌, ◌*◌, ◌≤◌, ◌<◌};
 ghost use Rattle.columns.specs.Held.{most_numbers, unheld, padded, none_held, table_held};
 ghost use Rattle.columns.specs.Order.{by_column, row_order};

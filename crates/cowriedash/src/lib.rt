@@ -1,4 +1,6 @@
 // The licensees' library: the demands and the verdict for C, with numbers and slices only at the boundary.
+#![tactic(auto)]
+
 pub mod by_priority;
 pub mod charged;
 pub mod guard_rows;

@@ -5,7 +5,7 @@ ghost use Rattle.demand.specs.Inside.Sizes.{due_most};
 ghost use Rattle.demand.specs.Limits.{ticks_most};
 
 // How far handlers have come: at `at`, so many ticks taken of the work called for.
-#[derive(Drop)]
+#[derive(Clone, Copy)]
 pub struct Progress {
     pub at: u64,
     pub taken: u64,

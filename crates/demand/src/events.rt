@@ -7,7 +7,7 @@ use crate::table;
 use crate::table::Kind;
 
 // What brings a row's work: its arrivals, the first of which counts from the first tick on, or its deadlines.
-#[derive(Drop)]
+#[derive(Clone, Copy)]
 pub enum Event {
     Arrival,
     Deadline,

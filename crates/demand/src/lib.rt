@@ -1,4 +1,6 @@
 // The two demands of a table and the margin that they leave: what every sheet stands on.
+#![tactic(auto)]
+
 pub mod arrivals;
 pub mod events;
 pub mod multiples;
@@ -19,21 +21,21 @@ use events::Event;
 use table::{HANDLERS_MOST, Kind};
 
 // A figure in ticks, or the number of the refusal.
-#[derive(Drop)]
+#[derive(Clone, Copy)]
 pub enum DemandAnswer {
     Ticks { ticks: u64 },
     Refused { number: u32 },
 }
 
 // The ticks that handlers take with the work that they leave over, or the number of the refusal.
-#[derive(Drop)]
+#[derive(Clone, Copy)]
 pub enum HandlerAnswer {
     Ticks { ticks: u64, left: u64 },
     Refused { number: u32 },
 }
 
 // A signed figure in ticks with the work that handlers leave over, or the number of the refusal.
-#[derive(Drop)]
+#[derive(Clone, Copy)]
 pub enum MarginAnswer {
     Ticks { ticks: i64, left: u64 },
     Refused { number: u32 },

@@ -19,14 +19,14 @@ pub const HANDLER_NUMBERS: usize = 2 * HANDLERS_MOST;
 pub const TICKS_MOST: u64 = 1_000_000_000;
 
 // Which of the two lists of a table.
-#[derive(Drop)]
+#[derive(Clone, Copy)]
 pub enum Kind {
     Task,
     Handler,
 }
 
 // A row: its cost, its period and its deadline, which for a handler is the period.
-#[derive(Drop)]
+#[derive(Clone, Copy)]
 pub struct Row {
     pub cost: u64,
     pub period: u64,

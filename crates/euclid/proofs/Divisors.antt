@@ -1,30 +1,9 @@
 -- Laws of the greatest common divisor and of the least common multiple of two numbers.
 --   IsGcd a b g   g divides both, and what divides n times both divides n times g
 use mathlib.Core.Path.{◌≡◌, refl, ap, sym, subst, ◌∙◌}
-use native.Mathlib.Nat.{
-  dvd_refl,
-  dvd-zero,
-  dvd_trans,
-  dvd-mod_iff,
-  dvd-sub,
-  dvd-mul_left,
-  dvd-mul_right,
-  dvd-mul_right_of_dvd,
-  dvd_of_mul-dvd-mul_right,
-  pos_of_dvd_of_pos,
-  mul-dvd-mul_right,
-  one-dvd,
-  le_of_dvd,
-  mod_def,
-  mod-lt,
-  mul-sub,
-  mul_assoc,
-  mul_comm,
-  mul-pos,
-  div-mul_cancel,
-}
+use native.Mathlib.Nat.{dvd_refl, dvd-zero, dvd-mod_iff, dvd-sub, dvd-mul_left, dvd-mul_right, dvd-mul_right_of_dvd, dvd_of_mul-dvd-mul_right, pos_of_dvd_of_pos, mul-dvd-mul_right, mod_def, mod-lt, mul-sub, mul_assoc, mul_comm, mul-pos, div-mul_cancel}
 use native.Mathlib.Omega.{arith}
-use Prim.Native.Nat.{ℕ, zero, suc, ◌-◌, ◌*◌, ◌/◌, ◌%◌, ◌≤◌, ◌<◌, ◌∣◌}
+use Prim.Native.Nat.{ℕ, zero, suc, ◌-◌, ◌*◌, ◌/◌, ◌%◌, ◌<◌, ◌∣◌}
 use Rattle.euclid.specs.Euclid.{euclid, gcd, lcm}
 
 pub record IsGcd (a b g : ℕ) : Type 0 where

@@ -1,4 +1,6 @@
 // The greatest common divisor: what H and a period of the handlers are built with.
+#![tactic(auto)]
+
 ghost use Rattle.std.specs.Prelude.{◌≡◌};
 ghost use Rattle.euclid.specs.Euclid.{gcd};
 

@@ -1,4 +1,6 @@
 // Files of guards: the bytes of a file in, a page of handler rows out.
+#![tactic(auto)]
+
 mod page;
 mod reader;
 mod steps;

@@ -16,13 +16,13 @@ const LAST: usize = FIELDS - 1;
 const NUMBER_LIMIT: u64 = 10_000_000_000;
 
 // The numbers of a row, so far as they are read.
-#[derive(Drop)]
+#[derive(Clone, Copy)]
 pub struct Row {
     pub values: [u64; FIELDS],
 }
 
 // Where the reader stands in the text.
-#[derive(Drop)]
+#[derive(Clone, Copy)]
 pub enum State {
     // No file starts so.
     Broken,

@@ -4,7 +4,7 @@ ghost use Rattle.guard_file.specs.File.{header};
 ghost use Rattle.guard_file.specs.Inside.Steps.{word_of, given};
 
 // The two kinds of guards: strict, and bursty.
-#[derive(Drop)]
+#[derive(Clone, Copy)]
 pub enum Kind {
     Single,
     Burst,

@@ -1,4 +1,6 @@
 // Rows for guarded interrupts: what a guard that limits a device's interrupts in software adds to the handlers of a table.
+#![tactic(auto)]
+
 ghost use Rattle.std.specs.Prelude.{◌≡◌, ◌+◌, ◌<◌};
 ghost use Rattle.demand.specs.Refusals.{row_outside};
 ghost use Rattle.guards.specs.Answers.{RowsSay};
@@ -11,7 +13,7 @@ use demand::table::{outside, wide};
 pub const BURST_MOST: u64 = 1_000;
 
 // A guard by its measured tick counts: strict, one interrupt a gap; or bursty, n of them.
-#[derive(Drop)]
+#[derive(Clone, Copy)]
 pub enum Guard {
     Strict {
         int: u32,
@@ -34,7 +36,7 @@ pub enum Guard {
 }
 
 // The costs of both handler rows, interrupt and timer, and their one period; or the number of the refusal.
-#[derive(Drop)]
+#[derive(Clone, Copy)]
 pub enum Answer {
     Rows {
         interrupt: u32,

@@ -1,6 +1,8 @@
 // For tests and benchmarks in other languages: a run laid out in arrays that the caller lends.
 // figures: task count, handler count, clock, over, late row and 1 (0 for none); then of the answer: code, who ran
 // (0 nobody, 1 a handler, 2 a task), its row, late row and 1.
+#![tactic(auto)]
+
 mod numbers;
 
 ghost use Rattle.std.specs.Prelude.{◌≡◌, replicate};

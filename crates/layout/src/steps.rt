@@ -11,7 +11,7 @@ use text::digits;
 const NUMBER_LIMIT: u64 = 10_000_000;
 
 // What stands behind a row's period.
-#[derive(Drop)]
+#[derive(Clone, Copy)]
 pub enum Last {
     // Nothing: there are three columns.
     NoField,
@@ -22,7 +22,7 @@ pub enum Last {
 }
 
 // Which number of a row: its kind, and the numbers before it.
-#[derive(Drop)]
+#[derive(Clone, Copy)]
 pub enum Place {
     Cost(Kind),
     Period(Kind, u32),
@@ -30,7 +30,7 @@ pub enum Place {
 }
 
 // Where the reader stands in the text.
-#[derive(Drop)]
+#[derive(Clone, Copy)]
 pub enum State {
     // No table starts so.
     Broken,

@@ -5,7 +5,7 @@ ghost use Rattle.layout.specs.File.{header_of, name_of};
 use demand::table::Kind;
 
 // The columns that the header names: the deadline's is the fourth.
-#[derive(Drop)]
+#[derive(Clone, Copy)]
 pub enum Columns {
     Three,
     Four,

@@ -1,1 +1,2 @@
 // A milder guard keeps a yes: theorems about rows and verdict. No code.
+#![tactic(auto)]

@@ -24,7 +24,7 @@ use Rattle.own_segments.specs.Own.{who_ran, ran_of, own}
 use Rattle.own_segments.specs.Promise.{own_segments}
 use Rattle.scheduler.proofs.Steps.Answers.{Outcome, outcome}
 use Rattle.scheduler.proofs.Steps.Answers.Outcome.{stays, goes}
-use Rattle.scheduler.proofs.Steps.Goes.{goes_to}
+use Rattle.scheduler.proofs.Steps.Goes.{goes-to}
 use Rattle.scheduler.specs.Tick.{GoesTo, owed_with, key_in, ran_by, ticked_by}
 use Rattle.scheduler.specs.declared.Ran.{Ran}
 use Rattle.scheduler.specs.declared.Ran.TheVariants.{Handler, Task, Idle}
@@ -105,7 +105,7 @@ module _ (t h : List ℕ) (e : table_refusal t h ≡ 0) where
           (subst (λ (n : ℕ). Rowed n (length (handlers_of h)) (who_ran (ran_by due_of (sync_run t h x) (beat_of t h x)))) (sync-tasks t h e x)
           (subst (λ (m : ℕ). Rowed (sync_run t h x).task_count m (who_ran (ran_by due_of (sync_run t h x) (beat_of t h x))))
           (sync-handlers t h e x)
-          (rowed-ran (key_in due_of (sync_run t h x) (beat_of t h x)) (owed_with (sync_run t h x) (beat_of t h x)) _ _ _ (goes_to _ _ _ _))))
+          (rowed-ran (key_in due_of (sync_run t h x) (beat_of t h x)) (owed_with (sync_run t h x) (beat_of t h x)) _ _ _ (goes-to _ _ _ _))))
 
   pub own-readable-by : (L : ℕ) → length (own_segments t h L) ≤ segments_most → unreadable t h (numbers_of (own_segments t h L)) L ≡ false
   own-readable-by L few =

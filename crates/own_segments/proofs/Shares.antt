@@ -24,7 +24,7 @@ use Rattle.own_segments.specs.Own.{who_ran, ran_of, own}
 use Rattle.scheduler.proofs.Reached.FreshBounds.{zeros-at}
 use Rattle.scheduler.proofs.Reached.KeepsBounds.{owed-at, owed-length, due-moves, due-stays}
 use Rattle.scheduler.proofs.Steps.Answers.{Passed, passed, step-ticks}
-use Rattle.scheduler.proofs.Steps.Goes.{goes_to}
+use Rattle.scheduler.proofs.Steps.Goes.{goes-to}
 use Rattle.scheduler.specs.Reached.{offered_by}
 use Rattle.scheduler.specs.Runs.{row_in, row_places}
 use Rattle.scheduler.specs.Start.{fresh_run}
@@ -131,7 +131,7 @@ module _ (t h : List ℕ) (e : table_refusal t h ≡ 0) where
     own-goes =
         subst (λ (x : ℕ). GoesTo (key_in due_of r ws) (owed_with r ws) x handlers ran) (sync-tasks t h e n)
         (subst (λ (y : ℕ). GoesTo (key_in due_of r ws) (owed_with r ws) r.task_count y ran) (sync-handlers t h e n)
-        (goes_to (key_in due_of r ws) (owed_with r ws) r.task_count r.handler_count))
+        (goes-to (key_in due_of r ws) (owed_with r ws) r.task_count r.handler_count))
 
     -- With the arrivals of the tick.
     arrived : (k : ℕ) → k < length (rows_in t h) → get_or (owed_with r ws) k 0 ≡ get_or r.owed k 0 + beat n (row_at (rows_in t h) k)

@@ -1,4 +1,6 @@
 // Our own scheduler's segments: who runs when, of a table whose rows all arrive at 0 and each period at full cost.
+#![tactic(auto)]
+
 mod arrivals;
 mod pen;
 mod turn;
@@ -11,7 +13,7 @@ use scheduler::{Ran, Run};
 
 // How many segments, and the clock at which the run is over, or the span; that there are more than there is room for; or the number
 // of the refusal.
-#[derive(Drop)]
+#[derive(Clone, Copy)]
 pub enum Answer {
     Segments { count: usize, end: u64 },
     TooMany,
@@ -19,7 +21,7 @@ pub enum Answer {
 }
 
 // How many there are, and the clock to which the run came.
-#[derive(Drop)]
+#[derive(Clone, Copy)]
 pub struct Drawn {
     pub count: usize,
     pub end: u64,

@@ -11,7 +11,7 @@ pub const SEGMENTS_MOST: usize = 2048;
 pub const WIDTH: usize = 4;
 
 // Who runs since when, and how many segments are written.
-#[derive(Drop)]
+#[derive(Clone, Copy)]
 pub struct Pen {
     pub ran: Ran,
     pub from: u64,

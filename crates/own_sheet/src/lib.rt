@@ -1,4 +1,6 @@
 // Our own segments as the lines of a schedule file.
+#![tactic(auto)]
+
 ghost use Rattle.std.specs.Prelude.{◌≡◌};
 ghost use Rattle.own_sheet.specs.Lines.{letter_by, segment_line};
 ghost use Rattle.text.specs.Text.{text_of};

@@ -1,4 +1,6 @@
 // A page: texts laid one behind the other over its bytes. For what is longer than a line.
+#![tactic(auto)]
+
 ghost use Rattle.std.specs.Prelude.{◌≡◌, length};
 ghost use Rattle.page.specs.Laid.{end_of, laid};
 

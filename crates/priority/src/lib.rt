@@ -1,4 +1,6 @@
 // Fixed priorities: for each task the least length from 1 to its deadline with room for it, for those above it and for handlers.
+#![tactic(auto)]
+
 mod climb;
 mod ranks;
 
@@ -11,7 +13,7 @@ ghost use Rattle.priority.specs.Responses.{leasts};
 use demand::table::TASKS_MOST;
 
 // The lengths stand beside this, or the number of the refusal.
-#[derive(Drop)]
+#[derive(Clone, Copy)]
 pub enum Answer {
     Found,
     Refused { number: u32 },

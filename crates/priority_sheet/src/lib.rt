@@ -1,4 +1,6 @@
 // The lines of a table by fixed priority: a file in, a page of lines out.
+#![tactic(auto)]
+
 mod page;
 
 ghost use Rattle.std.specs.Prelude.{◌≡◌, ◌<◌, length};

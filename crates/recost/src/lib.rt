@@ -1,4 +1,6 @@
 // Where the cost of a task stands in a table file, so that its digits can be replaced and every other byte kept.
+#![tactic(auto)]
+
 ghost use Rattle.std.specs.Prelude.{◌≡◌, ◌+◌, ◌-◌, ◌<◌, length, get_or, drop};
 ghost use Rattle.demand.specs.Tests.{pick};
 ghost use Rattle.recost.specs.Inside.Scan.{opens, cost_from};

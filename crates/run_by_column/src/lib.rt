@@ -1,4 +1,6 @@
 // A fresh run of a table that is held by column. Apart from the other calls, so that who takes only the verdict has no scheduler.
+#![tactic(auto)]
+
 ghost use Rattle.columns.specs.Order.{row_order};
 ghost use Rattle.demand.specs.declared.table.Kind.TheVariants.{Task, Handler};
 ghost use Rattle.scheduler.specs.Promise.{FreshSays};

@@ -14,7 +14,7 @@ const HEADER_LEN: usize = 11;
 const HEADER: [u8; HEADER_LEN] = *b"row,from,to";
 
 // Which number of a row: its kind, and the numbers before it.
-#[derive(Drop)]
+#[derive(Clone, Copy)]
 pub enum Place {
     Row(Kind),
     From(Kind, u64),
@@ -22,7 +22,7 @@ pub enum Place {
 }
 
 // Where the reader stands in the text.
-#[derive(Drop)]
+#[derive(Clone, Copy)]
 pub enum State {
     // No file starts so.
     Broken,

@@ -1,4 +1,6 @@
 // A schedule file judged: a table file, a schedule file and a span in, two printed lines out.
+#![tactic(auto)]
+
 mod lines;
 pub mod spans;
 

@@ -1,4 +1,6 @@
 // The scheduler, one tick at a time: a run is a value, which a step takes and hands back.
+#![tactic(auto)]
+
 mod arrivals;
 mod begin;
 mod bounds;
@@ -19,7 +21,7 @@ use demand::table::TASKS_MOST;
 
 // A run: its table, the clock, for each row the next legal arrival and the work owed (handlers behind tasks), for each task the
 // tick by which its last job must be done, whether it is over, and who was late.
-#[derive(Drop)]
+#[derive(Clone, Copy)]
 pub struct Run {
     pub tasks: [u32; TASK_NUMBERS],
     pub handlers: [u32; HANDLER_NUMBERS],
@@ -34,14 +36,14 @@ pub struct Run {
 }
 
 // Who was late.
-#[derive(Drop)]
+#[derive(Clone, Copy)]
 pub enum Late {
     Nobody,
     Task { row: usize },
 }
 
 // Who ran.
-#[derive(Drop)]
+#[derive(Clone, Copy)]
 pub enum Ran {
     Handler { row: usize },
     Task { row: usize },
@@ -49,7 +51,7 @@ pub enum Ran {
 }
 
 // Who ran and who is late, or the number of the refusal.
-#[derive(Drop)]
+#[derive(Clone, Copy)]
 pub enum Answer {
     Ticked { ran: Ran, late: Late },
     Refused { number: u32 },
@@ -63,7 +65,7 @@ pub struct Stepped {
 }
 
 // A fresh run stands beside this, or the number of the refusal.
-#[derive(Drop)]
+#[derive(Clone, Copy)]
 pub enum Start {
     Ready,
     Refused { number: u32 },

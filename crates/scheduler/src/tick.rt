@@ -12,14 +12,14 @@ use crate::{Answer, Late, Ran, Run, Stepped, arrivals, rows};
 use demand::table::TASKS_MOST;
 
 // By which number tasks are chosen: the earliest deadline runs first, or the shortest period.
-#[derive(Drop)]
+#[derive(Clone, Copy)]
 pub enum Key {
     Deadline,
     Period,
 }
 
 // The task found so far, and its key.
-#[derive(Drop)]
+#[derive(Clone, Copy)]
 pub struct Best {
     pub found: bool,
     pub row: usize,

@@ -1,59 +1,59 @@
 // Steps, and what is printed of them.
-use libc::STDOUT_FILENO;
 use scheduler::{Answer, Late, Ran, Run};
+use std::io::Stdout;
 
-pub fn say(text: &[u8]) {
-    io::write_all(STDOUT_FILENO, text);
+pub fn say(out: Stdout, text: &[u8]) {
+    console::say(&out, text);
 }
 
-fn print_ran(ran: Ran) {
+fn print_ran(out: Stdout, ran: Ran) {
     match ran {
         Ran::Handler { row } => {
-            say(b"H");
-            io::print_decimal(STDOUT_FILENO, row as u64);
+            say(out, b"H");
+            console::say_number(&out, row as u64);
         }
         Ran::Task { row } => {
-            say(b"T");
-            io::print_decimal(STDOUT_FILENO, row as u64);
+            say(out, b"T");
+            console::say_number(&out, row as u64);
         }
-        Ran::Idle => say(b"idle"),
+        Ran::Idle => say(out, b"idle"),
     }
 }
 
-fn print_late(late: Late, clock: u64) {
+fn print_late(out: Stdout, late: Late, clock: u64) {
     match late {
         Late::Nobody => {}
         Late::Task { row } => {
-            say(b", task ");
-            io::print_decimal(STDOUT_FILENO, row as u64);
-            say(b" late at clock ");
-            io::print_decimal(STDOUT_FILENO, clock);
+            say(out, b", task ");
+            console::say_number(&out, row as u64);
+            say(out, b" late at clock ");
+            console::say_number(&out, clock);
         }
     }
 }
 
 // One step: who runs, and who is late at the next clock, or the refusal. The next run comes back.
-pub fn step(run: Run, arrivals: &[u32]) -> Run {
+pub fn step(out: Stdout, run: Run, arrivals: &[u32]) -> Run {
     let stepped = run.step(arrivals);
     let answer = stepped.answer;
     let after = stepped.run;
     match answer {
         Answer::Ticked { ran, late } => {
-            print_ran(ran);
-            print_late(late, after.clock);
+            print_ran(out, ran);
+            print_late(out, late, after.clock);
         }
         Answer::Refused { number } => {
-            say(b"refused ");
-            io::print_decimal(STDOUT_FILENO, number as u64);
+            say(out, b"refused ");
+            console::say_number(&out, number as u64);
         }
     }
     after
 }
 
 // A line of its own for one step.
-pub fn ask(what: &[u8], run: Run, arrivals: &[u32]) {
-    say(what);
-    say(b": ");
-    step(run, arrivals);
-    say(b"\n");
+pub fn ask(out: Stdout, what: &[u8], run: Run, arrivals: &[u32]) {
+    say(out, what);
+    say(out, b": ");
+    step(out, run, arrivals);
+    say(out, b"\n");
 }

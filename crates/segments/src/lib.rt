@@ -1,4 +1,6 @@
 // A schedule from elsewhere, judged: the first tick at which it breaks a rule, or that it breaks none.
+#![tactic(auto)]
+
 mod look;
 pub mod refusal;
 mod scan;
@@ -11,7 +13,7 @@ ghost use Rattle.segments.specs.Promise.{judge_refusal, answer_numbers, JudgeSay
 use scan::PLACES;
 
 // Accepted; the first tick at which a rule is broken; or the number of the refusal.
-#[derive(Drop)]
+#[derive(Clone, Copy)]
 pub enum Answer {
     Accepted,
     Broken { tick: u64 },

@@ -9,7 +9,7 @@ use demand::table::TASKS_MOST;
 
 pub const WIDTH: usize = 4;
 
-#[derive(Drop)]
+#[derive(Clone, Copy)]
 pub struct Segment {
     pub kind: u64,
     pub row: u64,

@@ -1,4 +1,6 @@
 // The sheet of a file: a table in, two printed lines out.
+#![tactic(auto)]
+
 pub mod lines;
 
 ghost use Rattle.std.specs.Prelude.{◌≡◌};

@@ -1,4 +1,6 @@
 // Text in a fixed space, numbers in decimal, and the English line of a refusal: what every program that writes needs.
+#![tactic(auto)]
+
 pub mod digits;
 pub mod english;
 pub mod spelled;

@@ -1,19 +1,22 @@
 // Prints the English line of every number from 0 to 20 and of the greatest, so that each word of the table stands once more.
-use libc::STDOUT_FILENO;
+#![tactic(auto)]
+
+use std::io::Stdout;
 
 // One line: the number, then its words.
-fn say(number: u32) {
-    io::print_decimal(STDOUT_FILENO, number as u64);
-    io::write_all(STDOUT_FILENO, b": ");
-    console::print(STDOUT_FILENO, text::english::line(number));
-    io::write_all(STDOUT_FILENO, b"\n");
+fn say(out: Stdout, number: u32) {
+    console::say_number(&out, number as u64);
+    console::say(&out, b": ");
+    console::print(&out, text::english::line(number));
+    console::say(&out, b"\n");
 }
 
-fn main() {
+fn main(rt: HostRuntime) {
+    let out = rt.stdout();
     let mut number = 0;
     while number < 21 {
-        say(number);
+        say(out, number);
         number += 1;
     }
-    say(4294967295);
+    say(out, 4294967295);
 }

@@ -1,4 +1,6 @@
 // The greatest cost of one task at which a table fits, all else kept.
+#![tactic(auto)]
+
 mod costs;
 mod search;
 
@@ -10,7 +12,7 @@ use demand::table;
 use demand::table::Kind;
 
 // The present cost of the task and the greatest at which the table fits; that none from 1 fits; or the number of the refusal.
-#[derive(Drop)]
+#[derive(Clone, Copy)]
 pub enum Answer {
     Cost { old: u32, new: u32 },
     None { old: u32 },

@@ -6,7 +6,7 @@ ghost use Rattle.trim.specs.Inside.{is_fits, Judged, CanTry, CanSearch, FoundSay
 use crate::costs;
 
 // The greatest cost that fits, and how many verdicts told it.
-#[derive(Drop)]
+#[derive(Clone, Copy)]
 pub struct Found {
     pub cost: u32,
     pub turns: u32,

@@ -1,4 +1,6 @@
 // Trimming a table file: the bytes of a file and a row in, two printed lines and the bytes of the new file out.
+#![tactic(auto)]
+
 mod lines;
 pub mod names;
 mod write;

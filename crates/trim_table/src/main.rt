@@ -2,47 +2,48 @@
 // new cost of that task, the greatest at which the table fits; behind them, where there is one, the table with that one cost changed.
 // On a refusal its number and English line go to standard error. Where the input could not be read to its end, or what there is not
 // written whole, a line on standard error says so.
+#![tactic(auto)]
+
 use layout::reader::FILE_MOST;
-use libc::{STDERR_FILENO, STDIN_FILENO, STDOUT_FILENO};
 
 // One byte more than a file may have is read, so that a longer one is known as such.
 const READ_MOST: usize = FILE_MOST + 1;
 
-// The longest name of a task that is read whole; a longer one is no task's.
+// The longest name of a task that is read; a longer one is no task's.
 const NAME_MOST: usize = 16;
 
-fn main() {
+fn main(rt: HostRuntime) {
     let mut name = [0u8; NAME_MOST];
-    let k = os::arg(1, &mut name);
+    let k = console::argument(&rt, 1, &mut name);
     let row = trim_file::names::row_named(&name[..k]);
     let mut input = [0u8; READ_MOST];
-    let reading = console::read_whole(STDIN_FILENO, &mut input);
+    let reading = console::read_whole(&mut rt.stdin(), &mut input);
     let n = reading.count;
     let whole = reading.whole;
     if whole {
-        answer(&input[..n], row);
+        answer(&rt, &input[..n], row);
     } else {
-        io::write_all(
-            STDERR_FILENO,
+        console::say(
+            &rt.stderr(),
             b"trim: standard input could not be read to its end\n",
         );
     }
 }
 
 // Prints the lines and the new table of a whole file.
-fn answer(file: &[u8], row: usize) {
+fn answer(rt: &HostRuntime, file: &[u8], row: usize) {
     let output = trim_file::trimmed(file, row);
     let page = output.bytes;
     let len = output.len;
     let refusal = output.refusal;
-    let written = io::write_all(STDOUT_FILENO, &page[..len]);
+    let written = console::say(&rt.stdout(), &page[..len]);
     if !written {
-        io::write_all(
-            STDERR_FILENO,
+        console::say(
+            &rt.stderr(),
             b"trim: the lines and the table could not be written whole\n",
         );
     }
     if 0 < refusal {
-        console::explain(refusal);
+        console::explain(&rt.stderr(), refusal);
     }
 }

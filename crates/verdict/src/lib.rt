@@ -1,4 +1,6 @@
 // The verdict on a table: does every interval have room, and if not, which is the shortest that fails.
+#![tactic(auto)]
+
 mod drain;
 mod load;
 pub mod multiples;
@@ -13,7 +15,7 @@ use demand::table::Kind;
 use search::Found;
 
 // The shortest interval that fails, with both demands there, the work that handlers leave over and how many lengths were tested.
-#[derive(Drop)]
+#[derive(Clone, Copy)]
 pub struct Miss {
     pub interval: u64,
     pub handler: u64,
@@ -23,7 +25,7 @@ pub struct Miss {
 }
 
 // Fits, with how many lengths were tested; misses at the shortest interval that fails; or the number of the refusal.
-#[derive(Drop)]
+#[derive(Clone, Copy)]
 pub enum Answer {
     Fits { load: u64, tested: u64 },
     Misses { miss: Miss, load: u64 },

@@ -14,7 +14,7 @@ use demand::table::{HANDLERS_MOST, Kind, TASKS_MOST};
 use demand::{arrivals, events};
 
 // The shortest interval that fails, or that there is none, with how many lengths were tested.
-#[derive(Drop)]
+#[derive(Clone, Copy)]
 pub enum Found {
     At { miss: Miss },
     Nothing { tested: u64 },
@@ -53,9 +53,9 @@ fn search(
     end: u64,
     looks: bool,
 ) -> Found
-    requires handlers_value { (table_refusal tasks.now handlers.now ≡ 0) × (end ≤ ticks_most) }
+    requires readable { (table_refusal tasks.now handlers.now ≡ 0) × (end ≤ ticks_most) }
     requires begun { Begun Deadline (tasks_of tasks.now) t.old × Begun Arrival (handlers_of handlers.now) h.old }
-    requires begun_2 { Begun Arrival (tasks_of tasks.now) a.old × Begun Arrival (handlers_of handlers.now) b.old }
+    requires asked_begun { Begun Arrival (tasks_of tasks.now) a.old × Begun Arrival (handlers_of handlers.now) b.old }
     ensures { FoundSays (tasks_of tasks.now) (handlers_of handlers.now) end looks result }
 {
     let mut d = 0;

@@ -175,7 +175,7 @@ noting-all (g ∷ gs) values = noting-all gs (noting g values)
 read-body : (es gs : List Guard) (values : List ℕ) (w : Reading) → AllLawful es → length values ≡ fields
     → read_from w crlf ≡ at Start values gs
     → read_from (read_from w (body es)) crlf ≡ at Start (noting-all es values) (gs ++ es)
-read-body [] gs values w s long h = rw append-nil h
+read-body [] gs values w s long h = h ∙ ap (at Start values) (sym (append-nil gs))
 read-body (e ∷ es) gs values w s long h =
     let row = read_from (at Start values gs) (guard_text e) in
     let through : read_from w (body (e ∷ es)) ≡ read_from row (body es) =

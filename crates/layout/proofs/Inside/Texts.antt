@@ -1,7 +1,7 @@
 -- The reader reads through every text of the layout: behind it a line end leads to the next line, with its rows read.
 use mathlib.Core.Bool.{Bool}
 use mathlib.Core.List.{List, [], ◌∷◌, ◌++◌, append-nil, append_assoc}
-use mathlib.Core.Path.{◌≡◌, refl, ap, ◌∙◌}
+use mathlib.Core.Path.{◌≡◌, refl, sym, ap, ◌∙◌}
 use native.Mathlib.Nat.{pow-suc}
 use native.Mathlib.Omega.{arith}
 use Prim.Native.Nat.{ℕ, zero, suc, ◌+◌, ◌-◌, ◌*◌, ◌/◌, ◌%◌, ◌^◌, ◌<◌}
@@ -118,7 +118,7 @@ read-entry cols (entry kind c p last) fs h =
 -- Where a line end leads to the next line with fs read, it does so behind more rows too.
 read-body : (cols : Columns) (es fs : List Entry) (w : Reading) → AllLawful cols es → read_from cols w crlf ≡ at Start fs →
     read_from cols (read_from cols w (body es)) crlf ≡ at Start (fs ++ es)
-read-body cols [] fs w s h = rw append-nil h
+read-body cols [] fs w s h = h ∙ ap (at Start) (sym (append-nil fs))
 read-body cols (e ∷ es) fs w s h =
     let row = read_from cols (at Start fs) (entry_text e) in
     let through : read_from cols w (body (e ∷ es)) ≡ read_from cols row (body es) =

@@ -115,13 +115,14 @@ pub own-called : (p i m j k : ℕ) → i ≡ j + m → (rs : List Row) → m < l
 unfolding above_called
 own-called p i m j k e [] h q = absurd (omega arith)
 own-called p i zero j k e (r ∷ rs) h q =
-    rw (← q)
-    (omega (
+    let same : r.cost * ceil k r.period ≡ r.cost * ceil k p = ap (λ (x : ℕ). r.cost * ceil k x) q in
+    omega (
       arith,
-      share-all (over r.period (suc i) j r) (r.cost * ceil k r.period) (omega arith),
-      share-none (over r.period i j r) (r.cost * ceil k r.period) (omega arith),
-      past-called r.period (suc i) i (suc j) k (omega arith) (omega arith) rs,
-    ))
+      same,
+      share-all (over p (suc i) j r) (r.cost * ceil k r.period) (omega arith),
+      share-none (over p i j r) (r.cost * ceil k r.period) (omega arith),
+      past-called p (suc i) i (suc j) k (omega arith) (omega arith) rs,
+    )
 own-called p i (suc m) j k e (r ∷ rs) h q =
     omega (
       arith,

@@ -1,7 +1,7 @@
 -- The reader reads through every text of the layout: behind it a line end leads to the next line, with its rows read.
 use mathlib.Core.Bool.{Bool}
 use mathlib.Core.List.{List, [], ◌∷◌, ◌++◌, append-nil, append_assoc}
-use mathlib.Core.Path.{◌≡◌, refl, ap, ◌∙◌}
+use mathlib.Core.Path.{◌≡◌, refl, sym, ap, ◌∙◌}
 use native.Mathlib.Nat.{pow-suc}
 use native.Mathlib.Omega.{arith}
 use Prim.Native.Nat.{ℕ, zero, suc, ◌+◌, ◌-◌, ◌*◌, ◌/◌, ◌%◌, ◌^◌, ◌<◌}
@@ -98,7 +98,7 @@ read-entry (entry kind row from to) fs h =
 -- Where a line end leads to the next line with fs read, it does so behind more rows too.
 read-body : (es fs : List Entry) (w : Reading) → AllLawful es → read_from w crlf ≡ at Start fs
     → read_from (read_from w (body es)) crlf ≡ at Start (fs ++ es)
-read-body [] fs w s h = rw append-nil h
+read-body [] fs w s h = h ∙ ap (at Start) (sym (append-nil fs))
 read-body (e ∷ es) fs w s h =
     let row = read_from (at Start fs) (entry_text e) in
     let through : read_from w (body (e ∷ es)) ≡ read_from row (body es) =

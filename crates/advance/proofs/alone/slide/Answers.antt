@@ -1,0 +1,6 @@
+use Rattle.advance.specs.Inside.Alone.{slid}
+use borrow.Author.Rules.{rules}
+use Rattle.advance.proofs.alone.slide.Goals as goal
+
+pub returns : goal.returns
+returns c = unfold slid in rw (← c.pay_by.ensures)

@@ -1,0 +1,6 @@
+use Rattle.charge_lines.proofs.Written.{count-written}
+use borrow.Author.Rules.{rules}
+use Rattle.charge_lines.proofs.counts.line.Goals as goal
+
+pub returns : goal.returns
+returns c = count-written c.args.way c.args.counts c.name.ensures c.fields.ensures c.puts.ensures

@@ -1,0 +1,14 @@
+use mathlib.Core.Path.{refl}
+use borrow.Author.Tests.{not-true, not-false}
+use Rattle.charge_lines.proofs.Charged.{placed-answer, misplaced-thirteen, misplaced-own}
+use borrow.Author.Rules.{rules}
+use Rattle.charge_lines.proofs.files.answer.Goals as goal
+
+pub returns-then-not-misplaced : goal.returns-then-not-misplaced
+returns-then-not-misplaced c = placed-answer _ _ _ _ _ (c.if-not-misplaced.true) c.of_table.ensures
+
+pub returns-then-number-eq0 : goal.returns-then-number-eq0
+returns-then-number-eq0 c = misplaced-thirteen _ _ _ _ _ _ (c.if-not-misplaced.false) c.of_table-number.ensures c.if-number-eq0.true refl
+
+pub returns-else-number-eq0 : goal.returns-else-number-eq0
+returns-else-number-eq0 c = misplaced-own _ _ _ _ _ _ (c.if-not-misplaced.false) c.of_table-number.ensures c.if-number-eq0.false refl

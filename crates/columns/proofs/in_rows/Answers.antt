@@ -1,0 +1,59 @@
+use mathlib.Core.Path.{refl, sym, ap, ◌∙◌, ◌≡◌}
+use native.Mathlib.Omega.{arith}
+use borrow.Author.Rules.{rules}
+use borrow.Author.Tests.{ltb-false}
+use Prim.Native.Nat.{ℕ, ◌-◌, ◌*◌, ◌≤◌, ◌<◌}
+use lib.ListN.{length, get_or}
+use Rattle.demand.specs.Refusals.{uneven}
+use Rattle.demand.proofs.Inside.Slices.{width-least}
+use Rattle.demand.proofs.Refusals.{neither}
+use Rattle.columns.specs.Held.{most_numbers}
+use Rattle.columns.specs.Order.{by_column}
+use Rattle.columns.proofs.Filled.{filled, filled_zero, filled-turn, shape, filled-end}
+use Rattle.columns.proofs.in_rows.Goals as goal
+
+pub nonzero_div-n : goal.nonzero_div-n
+nonzero_div-n c = omega (arith, c.width-w.ensures, width-least c.args.kind)
+
+pub loop-i-init : goal.loop-i-init
+loop-i-init c = (omega arith, filled_zero _ 192)
+
+pub place-requires : goal.place-requires
+place-requires c =
+    let is = shape c.args.kind c.args.numbers.now c.width-w.result c.requires c.width-w.ensures in
+    (omega (arith, is.numbers, is.most), omega (arith, is.numbers, is.most))
+
+pub offset_bounds-numbers-place : goal.offset_bounds-numbers-place
+offset_bounds-numbers-place c =
+    let is = shape c.args.kind c.args.numbers.now c.width-w.result c.requires c.width-w.ensures in
+    omega (arith, c.place.ensures.1, is.numbers, is.most)
+
+pub bounds-numbers-place : goal.bounds-numbers-place
+bounds-numbers-place c =
+    let is = shape c.args.kind c.args.numbers.now c.width-w.result c.requires c.width-w.ensures in
+    omega (arith, c.place.ensures.1, is.numbers)
+
+pub offset_bounds-out-i : goal.offset_bounds-out-i
+offset_bounds-out-i c =
+    let is = shape c.args.kind c.args.numbers.now c.width-w.result c.requires c.width-w.ensures in
+    omega (arith, is.most)
+
+pub bounds-out-i : goal.bounds-out-i
+bounds-out-i c =
+    let is = shape c.args.kind c.args.numbers.now c.width-w.result c.requires c.width-w.ensures in
+    omega (arith, is.most)
+
+pub overflow_add-i : goal.overflow_add-i
+overflow_add-i c =
+    let is = shape c.args.kind c.args.numbers.now c.width-w.result c.requires c.width-w.ensures in
+    omega (arith, is.most)
+
+pub loop-i-preserved : goal.loop-i-preserved
+loop-i-preserved c =
+    let is = shape c.args.kind c.args.numbers.now c.width-w.result c.requires c.width-w.ensures in
+    (omega arith, filled-turn _ 192 c.loop-i.i _ c.loop-i.out (omega (arith, is.most)) (ap (λ (k : ℕ). get_or c.args.numbers.now k 0) c.place.ensures.0) c.loop-i.invariant.1)
+
+pub returns : goal.returns
+returns c =
+    let is = shape c.args.kind c.args.numbers.now c.width-w.result c.requires c.width-w.ensures in
+    filled-end c.args.kind c.args.numbers.now c.loop-i.out c.width-w.result _ c.loop-i.i c.requires is c.loop-i.invariant.0 (omega arith) c.loop-i.invariant.1

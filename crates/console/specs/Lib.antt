@@ -1,0 +1,3 @@
+-- Contents.
+-- counts of bytes that were read
+pub mod Counts

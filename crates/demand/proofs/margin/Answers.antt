@@ -1,0 +1,34 @@
+use mathlib.Core.Path.{sym, ◌∙◌}
+use mir.Syntax.{w64}
+use mir.ValLaws.{to_z-of_z}
+use native.Mathlib.Omega.{arith}
+use Rattle.demand.specs.Rows.{handlers_of}
+use Rattle.demand.proofs.Answers.{margin-answered, margin-refused}
+use Rattle.demand.proofs.Demands.{handled-le}
+use Rattle.demand.proofs.Signs.{margin-read}
+use Rattle.demand.proofs.Inside.Sizes.{tasks-small, handlers-small, due-most}
+use borrow.Author.Rules.{rules}
+use Rattle.demand.proofs.margin.Goals as goal
+
+pub handled-f-requires : goal.handled-f-requires
+handled-f-requires c = handlers-small _ _ _ (sym c.of_question-number.ensures ∙ c.if-number-eq0.true)
+
+pub due-d-requires : goal.due-d-requires
+due-d-requires c = tasks-small _ _ _ (sym c.of_question-number.ensures ∙ c.if-number-eq0.true)
+
+pub left-left-requires : goal.left-left-requires
+left-left-requires c = ((handlers-small _ _ _ (sym c.of_question-number.ensures ∙ c.if-number-eq0.true)).0, c.handled-f.ensures)
+
+pub less_both-requires : goal.less_both-requires
+less_both-requires c =
+    let small = tasks-small c.args.tasks.now c.args.handlers.now _ (sym c.of_question-number.ensures ∙ c.if-number-eq0.true) in
+    omega (arith, small.ticks, c.handled-f.ensures, handled-le (handlers_of c.args.handlers.now) c.args.l, c.due-d.ensures, due-most _ _ small)
+
+pub returns-then-number-eq0 : goal.returns-then-number-eq0
+returns-then-number-eq0 c =
+    let answered = sym c.of_question-number.ensures ∙ c.if-number-eq0.true in
+    let whole = to_z-of_z w64 c.less_both.result (record { sfits = c.less_both.type_inv }) in
+    margin-answered _ _ _ _ _ _ answered (whole ∙ c.less_both.ensures ∙ margin-read _ _ _ _ _ c.handled-f.ensures c.due-d.ensures) c.left-left.ensures
+
+pub returns-else-number-eq0 : goal.returns-else-number-eq0
+returns-else-number-eq0 c = let number = c.of_question-number.ensures in margin-refused _ _ _ _ _ (λ z. c.if-number-eq0.false (number ∙ z)) number

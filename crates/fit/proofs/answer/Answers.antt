@@ -1,0 +1,6 @@
+use Rattle.sheet.proofs.Whole.{sheet-fits}
+use borrow.Author.Rules.{rules}
+use Rattle.fit.proofs.answer.Goals as goal
+
+pub print-written-requires : goal.print-written-requires
+print-written-requires c = sheet-fits _ _ c.sheet-output.ensures

@@ -1,0 +1,9 @@
+use Rattle.guard_file.proofs.Lent.{page-lent}
+use borrow.Author.Rules.{rules}
+use Rattle.guard_rows.proofs.answer.Goals as goal
+
+pub slice_bounds-page-end : goal.slice_bounds-page-end
+slice_bounds-page-end c = (page-lent _ _ _ _ c.blank-page.ensures c.answer-output.ensures).0
+
+pub slice_bounds-say-end : goal.slice_bounds-say-end
+slice_bounds-say-end c = (page-lent _ _ _ _ c.blank-page.ensures c.answer-output.ensures).1

@@ -1,0 +1,19 @@
+use mathlib.Core.Path.{◌≡◌, ap, ◌∙◌}
+use native.Mathlib.Omega.{arith}
+use Prim.Native.Nat.{◌+◌, ◌-◌, ◌≤◌}
+use lib.ListN.{replicate}
+use borrow.Author.Rules.{rules}
+use Rattle.machine.specs.Live.{due_of}
+use Rattle.scheduler.specs.Books.{busy_by}
+use Rattle.scheduler.specs.Steps.{step_of}
+use Rattle.scheduler.specs.declared.Fresh.{Fresh}
+use Rattle.scheduler.specs.declared.Stepped.{Stepped}
+use Rattle.harness.proofs.Counted.{busy-most, to_come, to-come-start, to-come-turn, to-come-end}
+use Rattle.harness.proofs.harness_ticks.Given as goal
+
+abbrev pub invariant-loop-i : goal.invariant-loop-i
+invariant-loop-i l =
+    (l.count ≤ l.i) × (l.i ≤ l.ticks) × (l.count + to_come l.ticks l.i l.rest l.run ≡ busy_by due_of (replicate l.ticks l.rest) l.initial.run)
+
+abbrev pub decreases-loop-i : goal.decreases-loop-i
+decreases-loop-i l = l.ticks - l.i

@@ -1,0 +1,5 @@
+use borrow.Author.Rules.{rules}
+use Rattle.harness.proofs.numbers.run_in.Goals as goal
+
+pub returns : goal.returns
+returns c = simp (c.late_of-late.ensures, c.over_of.ensures)

@@ -1,0 +1,22 @@
+use mathlib.Core.List.{[], ◌∷◌}
+use mathlib.Core.Path.{◌≡◌, refl, sym}
+use Rattle.layout.specs.declared.steps.State.{State}
+use Rattle.layout.specs.declared.steps.State.TheVariants.{Broken, Head, HeadCr, Start, Name, First, Digits, RowCr}
+use mathlib.Core.Bool.{false}
+use Rattle.layout.specs.Inside.Steps.{is_start}
+use borrow.Author.Rules.{rules}
+use Rattle.layout.proofs.steps.is_start.Goals as goal
+
+-- Every other state is none.
+elsewhere : (st : State) → (st ≡ Start → ⊥) → is_start st ≡ false
+elsewhere Broken h = refl
+elsewhere (Head k) h = refl
+elsewhere HeadCr h = refl
+elsewhere Start h = absurd (h refl)
+elsewhere (Name kind k) h = refl
+elsewhere (First place) h = refl
+elsewhere (Digits place v) h = refl
+elsewhere (RowCr kind c p last) h = refl
+
+pub returns-in_default : goal.returns-in_default
+returns-in_default c = sym (elsewhere c.args.st c.in_default.not-Start)

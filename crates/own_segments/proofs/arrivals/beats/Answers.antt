@@ -1,0 +1,71 @@
+use mathlib.Core.Path.{◌≡◌, refl, sym, ap, ◌∙◌}
+use native.Mathlib.Omega.{arith}
+use Prim.Native.Nat.{◌-◌, ◌≤◌}
+use Rattle.demand.specs.Rows.{Row, row_at}
+use Rattle.guarantees.specs.Patterns.{rows_in}
+use Rattle.machine.specs.Schedules.{beat}
+use Rattle.scheduler.proofs.Steps.Scan.{filled_zero, filled-turn}
+use Rattle.scheduler.specs.Scans.{filled}
+use Rattle.own_segments.proofs.Lists.{filled-long}
+use Rattle.own_segments.proofs.Rhythms.{rows_few, rows-fair, beats-taken}
+use borrow.Author.Rules.{rules}
+use Rattle.own_segments.proofs.arrivals.beats.Goals as goal
+
+pub count-all-requires : goal.count-all-requires
+count-all-requires c = c.requires
+
+pub loop-k-init : goal.loop-k-init
+loop-k-init c = (omega arith, sym (filled_zero _ _))
+
+pub row_at-row-requires : goal.row_at-row-requires
+row_at-row-requires c =
+    (c.requires, c.count-n.ensures, omega (arith, c.count-all.ensures))
+
+pub beat-requires : goal.beat-requires
+beat-requires c =
+    rw c.row_at-row.ensures (rows-fair _ _ c.requires _ (omega (arith, c.count-all.ensures)))
+
+pub offset_bounds-ws-k : goal.offset_bounds-ws-k
+offset_bounds-ws-k c =
+    omega (
+      arith,
+      rows_few _ _
+          c.requires,
+      c.count-all.ensures,
+    )
+
+pub bounds-ws-k : goal.bounds-ws-k
+bounds-ws-k c =
+    omega (
+      arith,
+      rows_few _ _
+          c.requires,
+      c.count-all.ensures,
+    )
+
+pub overflow_add-k : goal.overflow_add-k
+overflow_add-k c =
+    omega (
+      arith,
+      rows_few _ _
+          c.requires,
+      c.count-all.ensures,
+    )
+
+pub loop-k-preserved : goal.loop-k-preserved
+loop-k-preserved c =
+    let loop = c.loop-k in (
+      omega arith,
+      filled-turn _ _ _ _ _ loop.invariant.1
+          (c.beat.ensures ∙ ap (λ (r : Row). beat c.args.tick r)
+          c.row_at-row.ensures),
+    )
+
+pub returns : goal.returns
+returns c =
+    let all = c.count-all.ensures in
+    let loop = c.loop-k in (
+      filled-long _ _ _ _ loop.invariant.1,
+      beats-taken _ _ _ _ _ _ refl (rows_few _ _ c.requires) (omega (arith, all))
+          (omega (arith, all)) loop.invariant.1,
+    )

@@ -1,0 +1,18 @@
+use mathlib.Core.Path.{◌≡◌, refl, sym, ap, ◌∙◌}
+use native.Mathlib.Omega.{arith}
+use Prim.Native.Nat.{◌-◌, ◌≤◌}
+use Rattle.demand.specs.Rows.{Row, row_at}
+use Rattle.guarantees.specs.Patterns.{rows_in}
+use Rattle.machine.specs.Schedules.{beat}
+use Rattle.scheduler.proofs.Steps.Scan.{filled_zero, filled-turn}
+use Rattle.scheduler.specs.Scans.{filled}
+use Rattle.own_segments.proofs.Lists.{filled-long}
+use Rattle.own_segments.proofs.Rhythms.{rows_few, rows-fair, beats-taken}
+use borrow.Author.Rules.{rules}
+use Rattle.own_segments.proofs.arrivals.beats.Given as goal
+
+abbrev pub invariant-loop-k : goal.invariant-loop-k
+invariant-loop-k l = (l.k ≤ l.all) × (l.ws ≡ filled (λ j. beat l.tick (row_at (rows_in l.tasks l.handlers) j)) l.k l.initial.ws)
+
+abbrev pub decreases-loop-k : goal.decreases-loop-k
+decreases-loop-k l = l.all - l.k

@@ -1,0 +1,12 @@
+use native.Mathlib.Omega.{arith}
+use Prim.Native.Nat.{◌-◌, ◌≤◌}
+use Rattle.own_segments.specs.Inside.{QuietTo}
+use Rattle.own_segments.proofs.Rhythms.{rows_few, rows-fair, quiet_next, quiet-end}
+use borrow.Author.Rules.{rules}
+use Rattle.own_segments.proofs.arrivals.gap.Given as goal
+
+abbrev pub invariant-loop-k : goal.invariant-loop-k
+invariant-loop-k l = (l.k ≤ l.all) × (l.least ≤ l.most) × QuietTo l.tasks l.handlers l.tick l.least l.k
+
+abbrev pub decreases-loop-k : goal.decreases-loop-k
+decreases-loop-k l = l.all - l.k

@@ -1,0 +1,5 @@
+use borrow.Author.Rules.{rules}
+use Rattle.schedule_sheet.proofs.written.Goals as goal
+
+pub returns : goal.returns
+returns c = rw (c.of_answer-text.ensures, c.refusal_of-refusal.ensures)

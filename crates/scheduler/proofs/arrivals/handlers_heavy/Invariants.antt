@@ -1,0 +1,14 @@
+use mathlib.Core.Path.{◌≡◌, sym, ap}
+use borrow.Author.Rules.{rules}
+use Prim.Native.Nat.{◌≤◌, ◌-◌}
+use Rattle.demand.specs.Rows.{Row}
+use Rattle.scheduler.specs.Inside.OnePass.{heavy_handler}
+use Rattle.scheduler.specs.Scans.{any}
+use Rattle.scheduler.proofs.Steps.Scan.{at-end, any-zero, any-turn}
+use Rattle.scheduler.proofs.arrivals.handlers_heavy.Given as goal
+
+abbrev pub invariant-loop-i : goal.invariant-loop-i
+invariant-loop-i l = (l.i ≤ l.m) × (l.bad ≡ any (heavy_handler l.handlers l.arrivals l.n) l.i)
+
+abbrev pub decreases-loop-i : goal.decreases-loop-i
+decreases-loop-i l = l.m - l.i

@@ -1,0 +1,14 @@
+use mathlib.Core.Path.{◌≡◌, sym, ap}
+use borrow.Author.Rules.{rules}
+use Prim.Native.Nat.{◌≤◌, ◌-◌}
+use Rattle.demand.specs.Rows.{Row}
+use Rattle.scheduler.specs.Inside.OnePass.{heavy_task}
+use Rattle.scheduler.specs.Scans.{any}
+use Rattle.scheduler.proofs.Steps.Scan.{at-end, any-zero, any-turn}
+use Rattle.scheduler.proofs.arrivals.tasks_heavy.Given as goal
+
+abbrev pub invariant-loop-k : goal.invariant-loop-k
+invariant-loop-k l = (l.k ≤ l.n) × (l.bad ≡ any (heavy_task l.tasks l.arrivals) l.k)
+
+abbrev pub decreases-loop-k : goal.decreases-loop-k
+decreases-loop-k l = l.n - l.k

@@ -1,0 +1,14 @@
+use borrow.Author.Rules.{rules}
+use Rattle.scheduler.specs.Start.{zeros}
+use Rattle.scheduler.proofs.Steps.Tables.{tasks-fit, handlers-fit, fresh-made}
+use Rattle.scheduler.proofs.begin.fresh_run.Goals as goal
+
+pub copy_in-requires : goal.copy_in-requires
+copy_in-requires c = tasks-fit _ _ c.requires
+
+pub copy_in-requires-2 : goal.copy_in-requires-2
+copy_in-requires-2 c = handlers-fit _ _ c.requires
+
+pub returns : goal.returns
+unfolding zeros
+returns c = fresh-made _ _ _ _ _ _ c.copy_in.ensures c.copy_in-2.ensures c.count.ensures c.count-2.ensures

@@ -1,0 +1,15 @@
+use mathlib.Core.Path.{◌≡◌, sym, ap, ◌∙◌}
+use borrow.Author.Rules.{rules}
+use Prim.Native.Nat.{◌+◌, ◌≤◌, ◌-◌}
+use lib.ListN.{get_or}
+use Rattle.demand.specs.Rows.{Row}
+use Rattle.scheduler.specs.Inside.OnePass.{handler_out, handler_out_at}
+use Rattle.scheduler.specs.Scans.{any}
+use Rattle.scheduler.proofs.Steps.Scan.{at-end, any-zero, any-turn}
+use Rattle.scheduler.proofs.bounds.handlers_out.Given as goal
+
+abbrev pub invariant-loop-i : goal.invariant-loop-i
+invariant-loop-i l = (l.i ≤ l.m) × (l.bad ≡ any (handler_out_at l.clock l.handlers l.next l.owed l.n) l.i)
+
+abbrev pub decreases-loop-i : goal.decreases-loop-i
+decreases-loop-i l = l.m - l.i

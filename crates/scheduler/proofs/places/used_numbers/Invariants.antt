@@ -1,0 +1,14 @@
+use mathlib.Core.Bool.{◌||◌}
+use mathlib.Core.Path.{◌≡◌, refl}
+use borrow.Author.Rules.{rules}
+use Prim.Native.Nat.{◌≤◌, ◌-◌}
+use lib.ListN.{length, drop}
+use Rattle.scheduler.specs.Scans.{used}
+use Rattle.scheduler.proofs.Steps.Scan.{used_turn, used-end}
+use Rattle.scheduler.proofs.places.used_numbers.Given as goal
+
+abbrev pub invariant-loop-k : goal.invariant-loop-k
+invariant-loop-k l = (l.k ≤ length l.s) × ((l.bad || used (drop l.k l.s)) ≡ used (drop l.from l.s))
+
+abbrev pub decreases-loop-k : goal.decreases-loop-k
+decreases-loop-k l = length l.s - l.k

@@ -1,0 +1,19 @@
+use mathlib.Core.List.{List}
+use mathlib.Core.Path.{ap, ◌∙◌}
+use Prim.Native.Nat.{ℕ}
+use Rattle.scheduler.specs.Scans.{at}
+use Rattle.scheduler.specs.Tick.{goes_to}
+use Rattle.scheduler.proofs.Steps.Keys.{periods-keys}
+use borrow.Author.Rules.{rules}
+use Rattle.scheduler.proofs.tick.chosen.Goals as goal
+
+pub returns-in-Deadline : goal.returns-in-Deadline
+returns-in-Deadline c = rw c.in-Deadline.is c.goes_to.ensures
+
+pub returns-in-Period : goal.returns-in-Period
+returns-in-Period c =
+    let x = c.args in
+    rw c.in-Period.is
+    (c.goes_to-in-Period.ensures
+    ∙ ap (λ (ps : List ℕ). goes_to (at ps) x.owed.now x.n x.m) c.periods-periods.ensures
+    ∙ periods-keys x.tasks.now x.due.now x.owed.now x.n x.m c.requires.0)

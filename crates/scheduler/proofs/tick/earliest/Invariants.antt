@@ -1,0 +1,14 @@
+use mathlib.Core.Path.{◌≡◌, sym}
+use borrow.Author.Rules.{rules}
+use Prim.Native.Nat.{◌≤◌, ◌-◌}
+use Rattle.scheduler.specs.Scans.{at}
+use Rattle.scheduler.specs.Tick.{earliest}
+use Rattle.scheduler.proofs.Steps.Earliest.{earliest-zero, earliest-next}
+use Rattle.scheduler.proofs.Steps.Scan.{at-end}
+use Rattle.scheduler.proofs.tick.earliest.Given as goal
+
+abbrev pub invariant-loop-k : goal.invariant-loop-k
+invariant-loop-k l = (l.k ≤ l.n) × (l.best ≡ earliest (at l.keys) l.owed l.k)
+
+abbrev pub decreases-loop-k : goal.decreases-loop-k
+decreases-loop-k l = l.n - l.k

@@ -1,0 +1,22 @@
+use mathlib.Core.Bool.{false}
+use mathlib.Core.Path.{◌≡◌, sym}
+use borrow.Author.Rules.{rules}
+use Prim.Native.Nat.{◌≤◌, ◌-◌}
+use Rattle.scheduler.specs.Scans.{at, any}
+use Rattle.scheduler.specs.Tick.{is_late, late_row}
+use Rattle.scheduler.proofs.Steps.Scan.{any-zero, any-skip, first-none, first-here, at-end}
+use Rattle.scheduler.proofs.tick.late_row.Goals as goal
+
+pub loop-k-init : goal.loop-k-init
+loop-k-init c = (search rules, any-zero _)
+
+pub returns-then-late : goal.returns-then-late
+unfolding late_row
+returns-then-late c = sym (first-here _ _ _ _ _ c.loop-k.invariant.1 c.if-late.true (search rules))
+
+pub loop-k-preserved : goal.loop-k-preserved
+loop-k-preserved c = (search rules, any-skip _ _ c.loop-k.invariant.1 c.if-late.false)
+
+pub returns : goal.returns
+unfolding late_row
+returns c = sym (first-none _ _ _ _ (sym (at-end (any _) _ _ c.loop-k.invariant.0 c.loop-k-test.false (sym c.loop-k.invariant.1))))

@@ -1,0 +1,46 @@
+use mathlib.Core.Path.{ap, ◌∙◌}
+use native.Mathlib.Nat.{div-le_self}
+use native.Mathlib.Omega.{arith}
+use Prim.Native.Nat.{ℕ, ◌+◌, ◌-◌, ◌*◌}
+use Rattle.demand.specs.Rows.{row_of}
+use Rattle.segments.proofs.Looks.Figures.{lapse-most, work-most, last-read}
+use borrow.Author.Rules.{rules}
+use Rattle.segments.proofs.look.light_lapse.Goals as goal
+
+pub overflow_add-above : goal.overflow_add-above
+overflow_add-above c =
+    omega (
+      arith,
+      div-le_self c.above.result
+          (c.args.row.period - c.args.row.cost),
+      c.above.ensures,
+      c.requires.0.start,
+    )
+
+pub overflow_mul-row : goal.overflow_mul-row
+overflow_mul-row c =
+    let r = row_of c.args.row in
+    let last =
+    last-read 0 _ _ _ _ c.requires.0.fair.period.least _ _ _ c.above.ensures c.requires.2
+    c.greater-last.ensures in
+    omega (arith, work-most r _ _ c.requires.0 c.greater-last.result (omega (arith, last, lapse-most r _ _ c.requires.0)))
+
+pub overflow_add-result : goal.overflow_add-result
+overflow_add-result c =
+    let r = row_of c.args.row in
+    let last =
+    last-read 0 _ _ _ _ c.requires.0.fair.period.least _ _ _ c.above.ensures c.requires.2
+    c.greater-last.ensures in
+    omega (
+      arith,
+      c.above-2.ensures,
+      c.requires.0.start,
+      work-most r _ _ c.requires.0 c.greater-last.result (omega (arith, last, lapse-most r _ _ c.requires.0)),
+    )
+
+pub returns : goal.returns
+returns c =
+    let last =
+    last-read 0 _ _ _ _ c.requires.0.fair.period.least _ _ _ c.above.ensures c.requires.2
+    c.greater-last.ensures in
+    ap (λ (n : ℕ). c.args.a + n) c.above-2.ensures ∙ ap (λ (n : ℕ). c.args.a + (c.args.row.cost * n - c.args.given)) last

@@ -1,0 +1,6 @@
+use mathlib.Core.Path.{refl}
+use borrow.Author.Rules.{rules}
+use Rattle.segments.proofs.segment.misplaced.Goals as goal
+
+pub returns : goal.returns
+returns c = rw c.unknown.ensures refl

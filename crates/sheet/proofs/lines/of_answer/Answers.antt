@@ -1,0 +1,19 @@
+use mathlib.Core.List.{List}
+use mathlib.Core.Path.{ap, ◌∙◌}
+use Prim.Native.Nat.{ℕ}
+use lib.ListN.{take, drop}
+use Rattle.text.specs.Numbers.{fields_of}
+use Rattle.text.specs.Text.{puts_of}
+use Rattle.verdict.specs.Promise.{figures}
+use Rattle.sheet.proofs.Printed.{chained, lines-printed}
+use borrow.Author.Rules.{rules}
+use Rattle.sheet.proofs.lines.of_answer.Goals as goal
+
+pub returns : goal.returns
+returns c =
+    let start = c.args in
+    let head = c.of-head.ensures in
+    let named = c.with_word-named in
+    let numbers = c.numbers-numbers.ensures in
+    let listed = c.fields.ensures ∙ ap (λ (ns : List ℕ). puts_of named.result (fields_of (take 7 (drop 1 ns)))) numbers in
+    lines-printed (figures start.answer) _ (chained _ _ head named.ensures listed c.puts.ensures)

@@ -1,0 +1,17 @@
+use mathlib.Core.Path.{◌≡◌, refl, sym, ap, ◌∙◌}
+use native.Mathlib.Omega.{arith}
+use borrow.Author.Rules.{rules}
+use borrow.Author.Tests.{not-true, not-false}
+use Prim.Native.Nat.{ℕ, ◌+◌, ◌-◌, ◌≤◌, ◌<◌}
+use lib.ListN.{length, get_or, drop}
+use Rattle.text.proofs.Numbers.{continues-below}
+use Rattle.trim_file.specs.Names.{row_limit, digits_from}
+use Rattle.trim_file.proofs.Named.{digits-stop, digits-on, digits-end}
+use Rattle.trim_file.proofs.names.digits_from.Given as goal
+
+-- What is still to be read says what the whole does.
+abbrev pub invariant-loop-i : goal.invariant-loop-i
+invariant-loop-i l = (l.i ≤ length l.name) × (l.v < row_limit) × (digits_from l.first (drop 2 l.name) ≡ digits_from l.v (drop l.i l.name))
+
+abbrev pub decreases-loop-i : goal.decreases-loop-i
+decreases-loop-i l = length l.name - l.i

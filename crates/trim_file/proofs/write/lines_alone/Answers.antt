@@ -1,0 +1,8 @@
+use native.Mathlib.Omega.{arith}
+use borrow.Author.Rules.{rules}
+use Rattle.trim_file.proofs.Written.{alone-is}
+use Rattle.trim_file.proofs.write.lines_alone.Goals as goal
+
+pub returns : goal.returns
+returns c =
+    alone-is c.args.text c.args.refusal _ _ (omega (arith, c.requires.few, c.requires.counted)) c.bare.ensures c.add_text-sheet.ensures

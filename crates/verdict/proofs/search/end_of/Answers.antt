@@ -1,0 +1,23 @@
+use native.Mathlib.Omega.{arith}
+use borrow.Author.Tests.{lt-ltb, le-ltb}
+use native.Mathlib.Nat.{zero-div}
+use Prim.Native.Nat.{◌-◌}
+use Rattle.verdict.specs.Inside.Search.{end_by}
+use borrow.Author.Rules.{rules}
+use Rattle.verdict.proofs.search.end_of.Goals as goal
+
+pub returns-then-h-w : goal.returns-then-h-w
+unfolding end_by
+returns-then-h-w c = simp (le-ltb _ _ c.if-h-w.true)
+
+pub returns-then-bound-eq0 : goal.returns-then-bound-eq0
+unfolding end_by
+returns-then-bound-eq0 c = simp (lt-ltb _ _ c.if-h-w.false, c.if-bound-eq0.true) (omega (arith, zero-div (c.args.h - c.args.w)))
+
+pub returns-then-last-h : goal.returns-then-last-h
+unfolding end_by
+returns-then-last-h c = simp (lt-ltb _ _ c.if-h-w.false) (omega arith)
+
+pub returns-else-last-h : goal.returns-else-last-h
+unfolding end_by
+returns-else-last-h c = simp (lt-ltb _ _ c.if-h-w.false) (omega arith)

@@ -1,0 +1,13 @@
+use mathlib.Core.Path.{◌≡◌, refl, ◌∙◌}
+use native.Mathlib.Omega.{arith}
+use borrow.Author.Rules.{rules}
+use Prim.Native.Nat.{◌-◌, ◌<◌}
+use lib.ListN.{length, length-set}
+use Rattle.walk.proofs.Settling.{settled, settled-turn, settled_here, settled-last}
+use Rattle.walk.proofs.settle.Given as goal
+
+abbrev pub invariant-loop-i : goal.invariant-loop-i
+invariant-loop-i l = (l.i < length l.q) × (length l.q ≡ length l.initial.q) × (settled l.q l.i l.e ≡ settled l.initial.q l.k l.e)
+
+abbrev pub decreases-loop-i : goal.decreases-loop-i
+decreases-loop-i l = length l.q - l.i
