@@ -1,5 +1,7 @@
-// A list of names on a descriptor, a line at a time. It is read byte by byte, so that each name is known as soon as its line ends.
+// A list of names, a line at a time. It is read byte by byte, so that each name is known as soon as its line ends.
 ghost use Rattle.std.specs.Prelude.{◌≡◌, ◌≤◌, length};
+
+use std::io::Read;
 
 // A name of so many bytes; or that the list is over, and whether by a read that failed.
 #[derive(Clone, Copy)]
@@ -19,13 +21,19 @@ struct Byte {
 
 const BYTES_MOST: u64 = 18_446_744_073_709_551_615;
 
-fn read_byte(fd: i32) -> Byte {
+fn read_byte<R: Read>(input: &mut R) -> Byte {
     let mut one = [0u8; 1];
-    let got = libc::read(fd, &mut one);
-    Byte {
-        value: one[0],
-        over: got < 1,
-        failed: got < 0,
+    match input.read(&mut one) {
+        Ok(got) => Byte {
+            value: one[0],
+            over: got < 1,
+            failed: false,
+        },
+        Err(_) => Byte {
+            value: one[0],
+            over: true,
+            failed: true,
+        },
     }
 }
 
@@ -58,13 +66,13 @@ fn without_cr(buf: &[u8], count: usize) -> usize
 }
 
 // The next name: the bytes up to an LF, or up to the end where there are any, as many as there is room for.
-pub fn next(fd: i32, buf: &mut [u8]) -> Name
+pub fn next<R: Read>(input: &mut R, buf: &mut [u8]) -> Name
     ensures { result.count ≤ length buf.new }
 {
     let mut count = 0;
     let mut left = BYTES_MOST;
     while 0 < left {
-        let byte = read_byte(fd);
+        let byte = read_byte(input);
         if byte.over {
             let n = without_cr(buf, count);
             return Name {

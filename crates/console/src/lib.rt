@@ -6,7 +6,10 @@ ghost use Rattle.console.specs.Counts.{IsPrefixLen};
 ghost use Rattle.text.specs.Text.{Fits};
 
 use std::env::Env;
+use std::fs::File;
 use std::io::{Print, Read};
+use std::rt::Files;
+use std::str;
 use text::Text;
 
 // What was read: so many bytes, and whether they are whole, that is, the input ended there or there is no room for more.
@@ -69,6 +72,14 @@ pub fn argument<E: Env>(env: &E, i: usize, buf: &mut [u8]) -> usize
     ensures { IsPrefixLen result buf.new }
 {
     env.arg(i, buf).unwrap_or(0)
+}
+
+// The file with this name, opened for reading, where it can be.
+pub fn open<R: Files>(rt: &R, name: &[u8]) -> Option<R::File> {
+    match str::from_utf8(name) {
+        Ok(path) => File::open(rt, path).ok(),
+        Err(_) => None,
+    }
 }
 
 // Writes bytes, and answers whether all of them were written.

@@ -1,8 +1,10 @@
 // Reads a table from standard input; the first argument names a schedule file, the second is the span. Prints two lines: whether the
 // schedule is accepted, and if not, the first tick at which a rule is broken. On a refusal its number and English line go to standard
 // error. Where a file could not be read to its end, or the lines not written whole, a line on standard error says so.
+#![tactic(auto)]
+
 use layout::reader::FILE_MOST;
-use libc::{STDERR_FILENO, STDIN_FILENO, STDOUT_FILENO};
+use std::fs::File;
 
 // One byte more than a table file may have is read, so that a longer one is known as such.
 const TABLE_MOST: usize = FILE_MOST + 1;
@@ -10,66 +12,71 @@ const TABLE_MOST: usize = FILE_MOST + 1;
 // One byte more than the longest file of 2,048 segments: the header's 11 bytes, 35 for each line, and the last CRLF.
 const SCHEDULE_MOST: usize = 71_694;
 
+// The longest name of a file.
+const PATH_MOST: usize = 4096;
+
 // The longest span that is read whole; a longer one is no span.
 const SPAN_MOST: usize = 16;
 
-fn main() {
+fn main(rt: HostRuntime) {
     let mut table = [0u8; TABLE_MOST];
-    let reading = console::read_whole(STDIN_FILENO, &mut table);
+    let reading = console::read_whole(&mut rt.stdin(), &mut table);
     let n = reading.count;
     let whole = reading.whole;
     if whole {
-        with_schedule(&table[..n]);
+        with_schedule(&rt, &table[..n]);
     } else {
-        io::write_all(
-            STDERR_FILENO,
+        console::say(&rt.stderr(),
             b"judge: standard input could not be read to its end\n",
         );
     }
 }
 
 // Reads the schedule file that the first argument names.
-fn with_schedule(table: &[u8]) {
-    let mut path = io::buffer();
-    let k = os::arg(1, &mut path);
-    let fd = os::open_read(&path[..k]);
-    if fd < 0 {
-        io::write_all(
-            STDERR_FILENO,
-            b"judge: the schedule file could not be opened\n",
-        );
-        return;
+fn with_schedule(rt: &HostRuntime, table: &[u8]) {
+    let mut path = [0u8; PATH_MOST];
+    let k = console::argument(rt, 1, &mut path);
+    match console::open(rt, &path[..k]) {
+        None => {
+            console::say(
+                &rt.stderr(),
+                b"judge: the schedule file could not be opened\n",
+            );
+        }
+        Some(file) => from_file(rt, table, file),
     }
+}
+
+// Reads the schedule from its opened file.
+fn from_file(rt: &HostRuntime, table: &[u8], mut file: File) {
     let mut schedule = [0u8; SCHEDULE_MOST];
-    let reading = console::read_whole(fd, &mut schedule);
+    let reading = console::read_whole(&mut file, &mut schedule);
     let n = reading.count;
     let whole = reading.whole;
-    libc::close(fd);
     if whole {
-        answer(table, &schedule[..n]);
+        answer(rt, table, &schedule[..n]);
     } else {
-        io::write_all(
-            STDERR_FILENO,
+        console::say(
+            &rt.stderr(),
             b"judge: the schedule file could not be read to its end\n",
         );
     }
 }
 
 // Prints the lines of a whole table and a whole schedule, up to the span that the second argument says.
-fn answer(table: &[u8], schedule: &[u8]) {
+fn answer(rt: &HostRuntime, table: &[u8], schedule: &[u8]) {
     let mut said = [0u8; SPAN_MOST];
-    let k = os::arg(2, &mut said);
+    let k = console::argument(rt, 2, &mut said);
     let span = schedule_sheet::spans::span_said(&said[..k]);
     let output = schedule_sheet::judged(table, schedule, span);
     let refusal = output.refusal;
-    let written = console::print(STDOUT_FILENO, output.text);
+    let written = console::print(&rt.stdout(), output.text);
     if !written {
-        io::write_all(
-            STDERR_FILENO,
+        console::say(&rt.stderr(),
             b"judge: the lines could not be written whole\n",
         );
     }
     if 0 < refusal {
-        console::explain(refusal);
+        console::explain(&rt.stderr(), refusal);
     }
 }

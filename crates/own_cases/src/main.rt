@@ -32,23 +32,23 @@ fn segment(out: Stdout, is: bool, kind: u64, row: u64, from: u64, to: u64) {
 }
 
 // The first so many segments of a lent list.
-fn segments(out: Stdout, count: usize, out: &[u64]) {
+fn segments(out: Stdout, count: usize, list: &[u64]) {
     let mut k = 0;
     let mut i = 0;
-    while 4 <= out.len() - i {
-        segment(out, k < count, out[i], out[i + 1], out[i + 2], out[i + 3]);
+    while 4 <= list.len() - i {
+        segment(out, k < count, list[i], list[i + 1], list[i + 2], list[i + 3]);
         k += 1;
         i += 4;
     }
 }
 
-fn told(out: Stdout, answer: Answer, out: &[u64]) {
+fn told(out: Stdout, answer: Answer, list: &[u64]) {
     match answer {
         Answer::Segments { count, end } => {
             number(out, count as u64);
             say(out, b" segments to clock ");
             number(out, end);
-            segments(out, count, out);
+            segments(out, count, list);
         }
         Answer::TooMany => say(out, b"too many"),
         Answer::Refused { number: k } => {
@@ -60,9 +60,9 @@ fn told(out: Stdout, answer: Answer, out: &[u64]) {
 }
 
 fn own(out: Stdout, tasks: &[u32], handlers: &[u32], span: u64) {
-    let mut out = [7u64; 64];
-    let answer = own_segments::of_table(tasks, handlers, span, &mut out);
-    told(out, answer, &out);
+    let mut list = [7u64; 64];
+    let answer = own_segments::of_table(tasks, handlers, span, &mut list);
+    told(out, answer, &list);
 }
 
 fn advanced(out: Stdout, a: Advanced) -> Run {

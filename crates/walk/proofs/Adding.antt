@@ -9,7 +9,7 @@ use lib.Dec.{eqb}
 use Prim.Native.Nat.{ℕ, zero, suc, ◌+◌, ◌-◌, ◌*◌, ◌^◌, ◌≤◌, ◌<◌}
 use lib.ListN.{length, get_or, set, take, drop, length-set, length-append, length-drop}
 use lib.Seq.{drop_at, length-take-le, drop-set-add, get_or-drop}
-use Rattle.walk.specs.Queue.{Entry, next, cost, period, passed, joined, events, to_come, insert, Entries, Ordered, FairEntry, Queue, Twin, CanAdd, Added}
+use Rattle.walk.specs.Queue.{Entry, next, cost, period, passed, joined, events, to_come, insert, Entries, Ordered, FairEntry, Twin, CanAdd, Added}
 use Rattle.walk.proofs.Queue.{entries-map, come-cons, come-passed, insert-come, insert-length, insert-entries, insert-queue}
 
 -- ---- one entry in the place of another

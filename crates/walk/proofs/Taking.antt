@@ -4,7 +4,7 @@ use mathlib.Core.Path.{◌≡◌, refl, ◌∙◌}
 use native.Mathlib.Omega.{arith}
 use Prim.Native.Nat.{ℕ, ◌+◌, ◌≤◌, ◌<◌}
 use lib.ListN.{length, take, drop}
-use Rattle.walk.specs.Queue.{Entry, head, next, cost, period, passed, to_come, insert, Queue, FairEntry, Taken}
+use Rattle.walk.specs.Queue.{Entry, head, next, cost, passed, to_come, insert, Queue, FairEntry, Taken}
 use Rattle.walk.proofs.Queue.{head-ahead, come-passed, insert-come, insert-length, insert-queue}
 
 -- The queue q with sum carried has become r with s, and events at n may be left.

@@ -1,6 +1,7 @@
 // Events carried in order, so that a walk along them divides nothing. An entry is [next event, cost, period], and entries stand in order
 // of their next events.
 #![tactic(auto)]
+
 ghost use Rattle.std.specs.Prelude.{◌++◌, ◌≡◌, ◌+◌, ◌<◌, ◌≤◌, length, take, drop};
 ghost use Rattle.walk.specs.Queue.{head, next, insert, Twin, CanTakeTo, CanTake, Taken, CanAdd, Added};
 

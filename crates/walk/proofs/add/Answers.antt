@@ -1,6 +1,5 @@
 use native.Mathlib.Omega.{arith}
 use Rattle.walk.proofs.Adding.{add-fits, add-joined, add-inserted}
-use borrow.Author.Rules.{rules}
 use Rattle.walk.proofs.add.Goals as goal
 
 pub twin-i-requires : goal.twin-i-requires

@@ -1,9 +1,7 @@
-use mathlib.Core.Path.{◌≡◌, refl, ◌∙◌}
+use mathlib.Core.Path.{refl, ◌∙◌}
 use native.Mathlib.Omega.{arith}
-use borrow.Author.Rules.{rules}
-use Prim.Native.Nat.{◌-◌, ◌<◌}
-use lib.ListN.{length, length-set}
-use Rattle.walk.proofs.Settling.{settled, settled-turn, settled_here, settled-last}
+use lib.ListN.{length-set}
+use Rattle.walk.proofs.Settling.{settled-turn, settled_here, settled-last}
 use Rattle.walk.proofs.settle.Goals as goal
 
 pub loop-i-init : goal.loop-i-init

@@ -1,9 +1,7 @@
-use mathlib.Core.Path.{◌≡◌, refl, ◌∙◌}
-use native.Mathlib.Omega.{arith}
-use borrow.Author.Rules.{rules}
+use mathlib.Core.Path.{◌≡◌}
 use Prim.Native.Nat.{◌-◌, ◌<◌}
-use lib.ListN.{length, length-set}
-use Rattle.walk.proofs.Settling.{settled, settled-turn, settled_here, settled-last}
+use lib.ListN.{length}
+use Rattle.walk.proofs.Settling.{settled}
 use Rattle.walk.proofs.settle.Given as goal
 
 abbrev pub invariant-loop-i : goal.invariant-loop-i

@@ -1,5 +1,4 @@
 use native.Mathlib.Omega.{arith}
-use borrow.Author.Rules.{rules}
 use Rattle.walk.proofs.take.Goals as goal
 
 pub bounds-q-0 : goal.bounds-q-0

@@ -1,9 +1,7 @@
 use native.Mathlib.Omega.{arith}
-use borrow.Author.Rules.{rules}
 use Prim.Native.Nat.{◌≤◌}
 use lib.ListN.{length}
-use Rattle.walk.specs.Queue.{to_come}
-use Rattle.walk.proofs.Taking.{Taking, taking-start, taking-fair, taking-most, taking-less, taking-turn, taking-end, taken_none}
+use Rattle.walk.proofs.Taking.{taking-start, taking-fair, taking-most, taking-less, taking-turn, taking-end, taken_none}
 use Rattle.walk.proofs.take_to.Goals as goal
 
 pub returns-then-q-eq0 : goal.returns-then-q-eq0

@@ -1,7 +1,4 @@
 use native.Mathlib.Omega.{arith}
-use borrow.Author.Rules.{rules}
-use Prim.Native.Nat.{◌-◌, ◌≤◌}
-use lib.ListN.{length}
 use Rattle.walk.proofs.Adding.{twin-found, twin-none}
 use Rattle.walk.proofs.twin.Goals as goal
 

@@ -1,8 +1,5 @@
-use native.Mathlib.Omega.{arith}
-use borrow.Author.Rules.{rules}
 use Prim.Native.Nat.{◌-◌, ◌≤◌}
 use lib.ListN.{length}
-use Rattle.walk.proofs.Adding.{twin-found, twin-none}
 use Rattle.walk.proofs.twin.Given as goal
 
 abbrev pub invariant-loop-i : goal.invariant-loop-i
