@@ -1,7 +1,7 @@
 -- The piece law: while the one that runs is owed work and no task owed work has its deadline before, every tick goes to it.
 --   Lasting r ran d   ran can go on for d ticks: not past the last tick, not more than its work, not past a deadline of a task owed work
 --   Lone r ran d      so one tick less slides, and the last of d + 1 ends where the deadlines tell who is late
-use mathlib.Core.Bool.{true, false, false≢true}
+use mathlib.Core.Bool.{false, false≢true}
 use mathlib.Core.List.{List}
 use mathlib.Core.Logic.{⊎_elim}
 use mathlib.Core.Path.{◌≡◌, refl, sym, ap, subst, ◌∙◌}

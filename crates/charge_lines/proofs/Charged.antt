@@ -1,8 +1,8 @@
 -- The figures of a file (specs/Files): what the code finds meets the promise, and the promise allows nothing else.
 use mathlib.Core.Bool.{Bool, true, false, true≢false}
 use mathlib.Core.List.{List}
-use mathlib.Core.Logic.{◌⊎◌, inl, inr}
-use mathlib.Core.Path.{◌≡◌, refl, sym, ap, ◌∙◌, subst}
+use mathlib.Core.Logic.{inl, inr}
+use mathlib.Core.Path.{◌≡◌, sym, ap, ◌∙◌, subst}
 use borrow.Author.Tests.{eq-eqb, ne_eqb}
 use Prim.Native.Nat.{ℕ}
 use Rattle.charge_lines.specs.Files.{refused_of, AnswerIn, Answered, FileTold, FileCharged, OneCharge}

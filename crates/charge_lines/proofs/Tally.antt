@@ -5,7 +5,7 @@ use native.Mathlib.Nat.{add-zero, zero-add}
 use native.Mathlib.Omega.{arith}
 use Prim.Native.Nat.{ℕ, suc, ◌+◌, ◌≤◌, min}
 use lib.ListN.{length}
-use Rattle.charge_lines.specs.Counts.{most, counted, tallied_on, tallied, is_fits, is_misses, is_none, count, TallyCounts}
+use Rattle.charge_lines.specs.Counts.{most, counted, tallied_on, is_fits, is_misses, is_none, count, TallyCounts}
 use Rattle.charge_lines.specs.declared.counts.Counts.{Counts}
 use Rattle.charges.specs.declared.figures.Word.{Word}
 use Rattle.charges.specs.declared.figures.Word.TheVariants as word

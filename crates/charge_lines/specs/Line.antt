@@ -9,7 +9,7 @@
 --   tail_of g            == what stands behind the name
 --   line_of name g       == the whole line
 --   printed name g      == its bytes with zeros behind, and their count
-use Rattle.std.specs.Prelude.{Bool, false, ◌||◌, List, [], ◌∷◌, ◌++◌, ℕ, ◌-◌, min, eqb, length, replicate, take}
+use Rattle.std.specs.Prelude.{Bool, false, ◌||◌, List, [], ◌∷◌, ◌++◌, ℕ, min, eqb, length, replicate, take}
 use Rattle.charge_lines.specs.declared.Line.{Line}
 use Rattle.charges.specs.declared.figures.Figures.{Figures}
 use Rattle.charges.specs.declared.figures.Word.{Word}

@@ -30,7 +30,8 @@ fn main(rt: HostRuntime) {
     let mut digits = [0u8; ARGUMENT_MOST];
     let k = console::argument(&rt, 1, &mut digits);
     let quantum = text::spelled::number(QUANTUM_LIMIT, &digits[..k]);
-    console::say(&rt.stdout(),
+    console::say(
+        &rt.stdout(),
         b"name,exact,code,load,quantum,quantum load,task,task load\r\n",
     );
     if (quantum == 0) | (QUANTUM_MOST < quantum) {
@@ -39,7 +40,7 @@ fn main(rt: HostRuntime) {
         }
         console::explain(&rt.stderr(), 19);
     } else {
-        all(quantum);
+        all(&rt, quantum);
     }
 }
 
@@ -76,7 +77,8 @@ fn print(rt: &HostRuntime, name: &[u8], figures: Figures) -> bool {
 const NUMBER_MOST: u64 = 99;
 
 fn unwritten(rt: &HostRuntime) {
-    console::say(&rt.stderr(),
+    console::say(
+        &rt.stderr(),
         b"charges: a line could not be written whole\n",
     );
 }
@@ -96,7 +98,7 @@ fn explain(rt: &HostRuntime, line: u64, number: u64) {
 }
 
 // The lines of all tables, and their counts.
-fn all(quantum: u64) {
+fn all(rt: &HostRuntime, quantum: u64) {
     let mut by_exact = counts::start();
     let mut by_quantum = counts::start();
     let mut by_task = counts::start();
@@ -128,7 +130,8 @@ fn all(quantum: u64) {
 // The counts, where the list was read to its end.
 fn close(rt: &HostRuntime, failed: bool, exact: Counts, quantum: Counts, task: Counts) {
     if failed {
-        console::say(&rt.stderr(),
+        console::say(
+            &rt.stderr(),
             b"charges: the list could not be read to its end\n",
         );
         return;
@@ -138,7 +141,8 @@ fn close(rt: &HostRuntime, failed: bool, exact: Counts, quantum: Counts, task: C
     let c = console::print(&rt.stdout(), counts::line(Way::Quantum, quantum));
     let d = console::print(&rt.stdout(), counts::line(Way::Task, task));
     if !(a & b & c & d) {
-        console::say(&rt.stderr(),
+        console::say(
+            &rt.stderr(),
             b"charges: the counts could not be written whole\n",
         );
     }

@@ -1,12 +1,12 @@
 -- Laws of the charges of a table (specs/Promise): what a readable, plain one allows, and what each case comes to.
 use mathlib.Core.Bool.{Bool, true, false, not, ◌&&◌, true≢false}
 use mathlib.Core.List.{List}
-use mathlib.Core.Path.{◌≡◌, refl, sym, ap, subst, ◌∙◌}
+use mathlib.Core.Path.{◌≡◌, refl, sym, ap, ◌∙◌}
 use native.Mathlib.Omega.{arith}
-use borrow.Author.Tests.{ltb-false, eqb-true, eqb-false, le-ltb, lt-ltb, ne_eqb}
+use borrow.Author.Tests.{ltb-false, eqb-true, lt-ltb, ne_eqb}
 use lib.Dec.{eqb, ltb}
 use Prim.Native.Nat.{ℕ, ◌*◌, ◌≤◌, ◌<◌}
-use Rattle.charges.specs.Inside.{is_refused, UsefulPart, CanLoad, CanCharge}
+use Rattle.charges.specs.Inside.{is_refused, CanLoad, CanCharge}
 use Rattle.charges.specs.Promise.{quantum_most, quantum_outside, charge_of, shorter, charged, by_quantum, by_task, ChargeSays}
 use Rattle.charges.specs.Ways.{useful, quantum_cost, task_cost, load_by}
 use Rattle.charges.specs.declared.Answer.TheVariants as answer

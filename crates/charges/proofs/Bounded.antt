@@ -1,10 +1,9 @@
 -- Laws of formula 2 (specs/Ways): how great it gets.
 use mathlib.Core.List.{List}
-use mathlib.Core.Path.{◌≡◌}
 use native.Mathlib.Nat.{mul-le-mul, mul-le-mul_right, div-le_self}
 use native.Mathlib.Omega.{arith}
 use lib.ListN.{length}
-use Prim.Native.Nat.{ℕ, ◌+◌, ◌*◌, ◌/◌, ◌≤◌}
+use Prim.Native.Nat.{ℕ, ◌+◌, ◌*◌, ◌≤◌}
 use Rattle.charges.specs.Ways.{bound, bounds}
 use Rattle.demand.specs.Refusals.{FairRow}
 use Rattle.demand.specs.Rows.{Row, Each}

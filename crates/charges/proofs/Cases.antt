@@ -1,5 +1,5 @@
 -- The figures worked out by hand (specs/Cases), by one computation over the list.
-use mathlib.Core.Path.{◌≡◌, refl}
+use mathlib.Core.Path.{refl}
 use Rattle.charges.specs.Cases.{cases, EveryCase}
 use Rattle.charges.specs.Promise.{by_quantum, by_task}
 use Rattle.charges.specs.Ways.{bounds, grown, load_by}

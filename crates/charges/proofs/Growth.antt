@@ -1,7 +1,7 @@
 -- How great grown costs get: at most periods_most whole periods each.
 use mathlib.Core.List.{List}
 use mathlib.Core.Path.{◌≡◌}
-use native.Mathlib.Nat.{mul-le-mul, mul-le-mul_left, div-le_of_le-mul, mul_comm}
+use native.Mathlib.Nat.{mul-le-mul, div-le_of_le-mul, mul_comm}
 use native.Mathlib.Omega.{arith}
 use Prim.Native.Nat.{ℕ, ◌+◌, ◌*◌, ◌/◌, ◌≤◌, ◌<◌}
 use Rattle.charges.specs.Inside.{way_cost, Quantized, Usable, CanCharge, periods_most}

@@ -1,11 +1,8 @@
 -- The promise allows one answer (specs/Unique).
-use mathlib.Core.Bool.{true, false, true≢false}
-use mathlib.Core.List.{List}
-use mathlib.Core.Path.{◌≡◌, refl, sym, ap, ◌∙◌}
-use Prim.Native.Nat.{ℕ}
-use Rattle.charges.specs.Promise.{quantum_outside, ChargeSays, SaysCharged, SaysRefused}
+use mathlib.Core.Bool.{true≢false}
+use mathlib.Core.Path.{sym, ap, ◌∙◌}
+use Rattle.charges.specs.Promise.{ChargeSays}
 use Rattle.charges.specs.Unique.{ChargeUnique}
-use Rattle.charges.specs.declared.Answer.{Answer}
 use Rattle.charges.specs.declared.Answer.TheVariants as answer
 use Rattle.verdict.proofs.Promise.{verdict-unique}
 

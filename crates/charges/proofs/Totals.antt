@@ -11,7 +11,7 @@ use Rattle.charges.specs.declared.ways.Way.{Way}
 use Rattle.charges.proofs.Growth.{grown-most, periods-most}
 use Rattle.charges.proofs.WholePeriods.{rest-most}
 use Rattle.demand.specs.Refusals.{FairRow}
-use Rattle.demand.specs.Rows.{Row, tasks_of, rows_of, width, rest, Each, total}
+use Rattle.demand.specs.Rows.{Row, tasks_of, width, rest, Each, total}
 use Rattle.demand.specs.declared.table.Kind.TheVariants.{Task}
 use Rattle.demand.proofs.Inside.Slices.{from, total-short, total_head}
 use Rattle.demand.proofs.Sums.{each_map, total-most}

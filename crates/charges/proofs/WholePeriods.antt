@@ -11,7 +11,7 @@ use Rattle.demand.specs.Limits.{ticks_most}
 use Rattle.demand.specs.Multiples.{lcm_from, capped, Divided}
 use Rattle.demand.specs.Rows.{Row, Positive, total}
 use Rattle.demand.proofs.Inside.Sizes.{fair-positive}
-use Rattle.demand.proofs.Periods.{lcm-from-nil, lcm-from-cons, lcm-from-positive, lcm-from-rows}
+use Rattle.demand.proofs.Periods.{lcm-from-nil, lcm-from-positive, lcm-from-rows}
 use Rattle.demand.proofs.Sums.{total-nil, total-cons}
 use Rattle.euclid.specs.Euclid.{lcm}
 use Rattle.verdict.specs.Loads.{work, whole, millionths, load}

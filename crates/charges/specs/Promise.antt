@@ -6,7 +6,7 @@
 --   charged t h            == the table is readable and plain: else the two other ways have none
 --   by_quantum q t h, by_task t h   == the charges of the table t, h in the two other ways
 --   ChargeSays t h q r     r is the answer to the table t, h with a quantum of q ticks
-use Rattle.std.specs.Prelude.{Bool, true, false, not, ◌&&◌, ◌||◌, List, [], ◌∷◌, ◌≡◌, ℕ, eqb, leb, ltb}
+use Rattle.std.specs.Prelude.{Bool, true, false, not, ◌&&◌, ◌||◌, List, ◌≡◌, ℕ, eqb, leb, ltb}
 use Rattle.charges.specs.Ways.{useful, quantum_cost, task_cost, load_by}
 use Rattle.charges.specs.declared.Answer.{Answer}
 use Rattle.charges.specs.declared.Answer.TheVariants as answer

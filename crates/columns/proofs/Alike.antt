@@ -2,9 +2,9 @@
 use mathlib.Core.Bool.{Bool, true, false}
 use mathlib.Core.List.{List, [], ◌∷◌}
 use mathlib.Core.Path.{◌≡◌, refl, sym, ap, ◌∙◌}
-use native.Mathlib.Nat.{mod-lt, mul_comm, div-add-mod', zero-mul, one-mul, zero-add}
+use native.Mathlib.Nat.{mod-lt, mul_comm, div-add-mod'}
 use native.Mathlib.Omega.{arith}
-use Prim.Native.Nat.{ℕ, zero, suc, ◌+◌, ◌*◌, ◌/◌, ◌%◌, ◌≤◌, ◌<◌}
+use Prim.Native.Nat.{ℕ, zero, suc, ◌+◌, ◌*◌, ◌/◌, ◌%◌, ◌<◌}
 use lib.ListN.{length, get_or}
 use lib.Seq.{ext_get_or}
 use Rattle.demand.specs.Refusals.{uneven}

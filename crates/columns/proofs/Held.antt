@@ -1,6 +1,6 @@
 -- A table that its counts alone refuse is refused alike in either order.
 use mathlib.Core.Bool.{Bool, true, false, ◌||◌}
-use mathlib.Core.List.{List, [], ◌∷◌}
+use mathlib.Core.List.{List}
 use mathlib.Core.Logic.{◌⊎◌, inl, inr}
 use mathlib.Core.Path.{◌≡◌, refl, sym, ap, ◌∙◌}
 use native.Mathlib.Omega.{arith}
@@ -10,14 +10,14 @@ use lib.Dec.{ltb, eqb}
 use lib.ListN.{length}
 use Rattle.demand.specs.Limits.{tasks_most, handlers_most}
 use Rattle.demand.specs.Refusals.{uneven, miscounted, table_tests, table_refusal}
-use Rattle.demand.specs.Rows.{Row, tasks_of, handlers_of, width}
+use Rattle.demand.specs.Rows.{tasks_of, handlers_of}
 use Rattle.demand.specs.Tests.{pick}
 use Rattle.demand.specs.declared.table.Kind.{Kind}
 use Rattle.demand.specs.declared.table.Kind.TheVariants.{Task, Handler}
 use Rattle.demand.proofs.Chains.{first-at}
 use Rattle.demand.proofs.Inside.Slices.{rows-count}
 use Rattle.demand.proofs.Refusals.{neither}
-use Rattle.columns.specs.Held.{most_numbers, unheld, table_unheld, held_of, none_held, table_held, Alike, RefusedAlike}
+use Rattle.columns.specs.Held.{most_numbers, unheld, table_unheld, held_of, none_held, table_held, RefusedAlike}
 use Rattle.columns.specs.Order.{by_column, row_order}
 use Rattle.columns.proofs.Order.{whole, order-length}
 

@@ -1,7 +1,6 @@
 -- Lists put into the other order by hand.
-use mathlib.Core.List.{List, [], ◌∷◌}
+use mathlib.Core.List.{[], ◌∷◌}
 use mathlib.Core.Path.{◌≡◌, refl}
-use Prim.Native.Nat.{ℕ}
 use Rattle.demand.specs.declared.table.Kind.TheVariants.{Task, Handler}
 use Rattle.columns.specs.Order.{tabled_from, reordered, row_order, column_order}
 

@@ -1,15 +1,15 @@
 -- What a caller lends of a table put into row order.
 --   Counted f    the length of a list counts numbers of its space: what a caller needs to lend them
 use mathlib.Core.Bool.{Bool, true, false, not}
-use mathlib.Core.List.{List, [], ◌++◌}
+use mathlib.Core.List.{List, []}
 use mathlib.Core.Path.{◌≡◌, refl, sym, ap, ◌∙◌, subst, subst₂}
 use native.Mathlib.Omega.{arith}
-use Prim.Native.Nat.{ℕ, ◌-◌, ◌≤◌, ◌<◌}
+use Prim.Native.Nat.{ℕ, ◌-◌, ◌≤◌}
 use lib.ListN.{length, take, replicate, length-append}
 use lib.Seq.{take-append_seam}
 use Rattle.demand.specs.Tests.{pick}
 use Rattle.demand.specs.declared.table.Kind.TheVariants.{Task, Handler}
-use Rattle.columns.specs.Held.{most_numbers, table_unheld, padded, held_of, none_held, table_held, Alike}
+use Rattle.columns.specs.Held.{most_numbers, table_unheld, padded, table_held, Alike}
 use Rattle.columns.specs.Order.{row_order}
 use Rattle.columns.specs.declared.Flat.{Flat}
 use Rattle.columns.specs.declared.Table.{Table}

@@ -1,22 +1,20 @@
 -- The two orders of a list are of the same rows, and each is the other's way back.
 use mathlib.Core.Bool.{Bool, true, false}
-use mathlib.Core.List.{List, [], ◌∷◌}
-use mathlib.Core.Path.{◌≡◌, refl, sym, ap, ◌∙◌}
-use native.Mathlib.Nat.{mod-lt, div-lt_iff_lt-mul, mul_comm, div-add-mod'}
+use mathlib.Core.List.{List}
+use mathlib.Core.Path.{◌≡◌, refl, ap, ◌∙◌}
+use native.Mathlib.Nat.{mod-lt, div-lt_iff_lt-mul, mul_comm}
 use native.Mathlib.Omega.{arith}
 use borrow.Author.Tests.{ltb-false}
 use Prim.Native.Nat.{ℕ, zero, suc, ◌+◌, ◌*◌, ◌/◌, ◌%◌, ◌≤◌, ◌<◌}
 use lib.Dec.{ltb}
 use lib.Arith.{digits_lt, digits_div, digits_mod}
 use lib.ListN.{length, get_or}
-use lib.Seq.{ext_get_or}
 use Rattle.demand.specs.Refusals.{uneven}
-use Rattle.demand.specs.Rows.{Row, tasks_of, handlers_of, rows_of, width, no_row, row_at}
+use Rattle.demand.specs.Rows.{width}
 use Rattle.demand.specs.Tests.{pick}
 use Rattle.demand.specs.declared.table.Kind.{Kind}
 use Rattle.demand.specs.declared.table.Kind.TheVariants.{Task, Handler}
-use Rattle.demand.proofs.Inside.Slices.{rows-count, width-least}
-use Rattle.columns.specs.Order.{tabled, by_column, by_row, count, reordered, row_order, column_order, column_row, column_rows, RowsAlike, ThereAndBack}
+use Rattle.columns.specs.Order.{tabled, by_column, by_row, count, reordered, row_order, column_order}
 use Rattle.columns.proofs.Tabled.{tabled-length, tabled-at}
 
 -- ---- places

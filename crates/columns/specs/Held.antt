@@ -4,7 +4,7 @@
 --   padded s            == the list s with zeros behind, and its length
 --   table_held t h       == the table t, h in row order; neither list where one of them is unheld
 --   RefusedAlike        an unheld table is refused by its own number, 1 or 2, and its row order by the same
-use Rattle.std.specs.Prelude.{Bool, true, false, ◌||◌, not, List, [], ◌++◌, ◌≡◌, ℕ, ◌-◌, ◌*◌, ◌<◌, ltb, length, replicate}
+use Rattle.std.specs.Prelude.{Bool, true, false, ◌||◌, List, [], ◌++◌, ◌≡◌, ℕ, ◌-◌, ◌*◌, ◌<◌, ltb, length, replicate}
 use Rattle.demand.specs.Limits.{tasks_most, handlers_most}
 use Rattle.demand.specs.Refusals.{uneven, table_refusal}
 use Rattle.demand.specs.Tests.{pick}

@@ -9,7 +9,6 @@
 --   RespondsExactly        so every task has a length exactly where no run by priority from fresh is ever over
 use Rattle.std.specs.Prelude.{List, ◌≡◌, ℕ, ◌≤◌, ◌<◌, length, get_or}
 use Rattle.demand.specs.Limits.{ticks_most}
-use Rattle.demand.specs.Refusals.{table_refusal}
 use Rattle.demand.specs.Rows.{row_at, tasks_of, handlers_of}
 use Rattle.machine.specs.Live.{Live, due_of, period_of}
 use Rattle.machine.specs.Machine.{serve_by, sync_by}

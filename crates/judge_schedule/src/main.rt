@@ -26,7 +26,8 @@ fn main(rt: HostRuntime) {
     if whole {
         with_schedule(&rt, &table[..n]);
     } else {
-        console::say(&rt.stderr(),
+        console::say(
+            &rt.stderr(),
             b"judge: standard input could not be read to its end\n",
         );
     }
@@ -72,7 +73,8 @@ fn answer(rt: &HostRuntime, table: &[u8], schedule: &[u8]) {
     let refusal = output.refusal;
     let written = console::print(&rt.stdout(), output.text);
     if !written {
-        console::say(&rt.stderr(),
+        console::say(
+            &rt.stderr(),
             b"judge: the lines could not be written whole\n",
         );
     }

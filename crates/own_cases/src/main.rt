@@ -1,10 +1,10 @@
 // Our own scheduler's segments of tables of 01, and runs advanced over ticks without arrivals.
 #![tactic(auto)]
 
-use std::io::Stdout;
 use advance::Advanced;
 use own_segments::Answer;
 use scheduler::{Late, Run};
+use std::io::Stdout;
 
 fn say(out: Stdout, text: &[u8]) {
     console::say(&out, text);
@@ -36,7 +36,14 @@ fn segments(out: Stdout, count: usize, list: &[u64]) {
     let mut k = 0;
     let mut i = 0;
     while 4 <= list.len() - i {
-        segment(out, k < count, list[i], list[i + 1], list[i + 2], list[i + 3]);
+        segment(
+            out,
+            k < count,
+            list[i],
+            list[i + 1],
+            list[i + 2],
+            list[i + 3],
+        );
         k += 1;
         i += 4;
     }

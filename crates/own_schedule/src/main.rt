@@ -27,7 +27,8 @@ fn main(rt: HostRuntime) {
     if whole {
         answer(&rt, &table[..n], span);
     } else {
-        console::say(&rt.stderr(),
+        console::say(
+            &rt.stderr(),
             b"segments: standard input could not be read to its end\n",
         );
     }
@@ -43,7 +44,8 @@ fn answer(rt: &HostRuntime, file: &[u8], span: u64) {
     }
     let written = console::print(&rt.stdout(), output.text);
     if !written {
-        console::say(&rt.stderr(),
+        console::say(
+            &rt.stderr(),
             b"segments: the lines could not be written whole\n",
         );
     }
@@ -69,7 +71,8 @@ fn of_table(rt: &HostRuntime, file: &[u8], span: u64) {
             }
         }
         Answer::TooMany => {
-            console::say(&rt.stderr(),
+            console::say(
+                &rt.stderr(),
                 b"segments: there are more than 2,048 segments up to this span\n",
             );
         }
@@ -97,7 +100,8 @@ fn print_all(rt: &HostRuntime, out: &[u64], count: usize) {
         i += 4;
     }
     if !well {
-        console::say(&rt.stderr(),
+        console::say(
+            &rt.stderr(),
             b"segments: the lines could not be written whole\n",
         );
     }

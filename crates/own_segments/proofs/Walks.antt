@@ -2,7 +2,7 @@
 --   Walked ..   the run has come to a clock within the span, and the pen and the list hold the drawing of its ticks
 use mathlib.Core.Bool.{Bool, true, false, not, ◌&&◌, false≢true}
 use mathlib.Core.List.{List}
-use mathlib.Core.Logic.{◌⊎◌, ⊎_elim}
+use mathlib.Core.Logic.{⊎_elim}
 use mathlib.Core.Path.{◌≡◌, refl, sym, ap, subst, ◌∙◌}
 use native.Mathlib.Nat.{eq-or-lt_of_le}
 use native.Mathlib.Omega.{arith}
@@ -25,7 +25,6 @@ use Rattle.own_segments.specs.declared.pen.Pen.{Pen}
 use Rattle.scheduler.specs.Start.{padded}
 use Rattle.scheduler.specs.declared.Ran.TheVariants.{Idle}
 use Rattle.scheduler.specs.declared.Run.{Run}
-use Rattle.segments.specs.Given.{nobody}
 use Rattle.segments.specs.Segments.{Seg}
 
 pub record Walked (t h : List ℕ) (span room n : ℕ) (run : Run) (clock : ℕ) (pen : Pen) (out : List ℕ) : Type 0 where

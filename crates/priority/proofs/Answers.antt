@@ -1,17 +1,13 @@
 -- Answers that meet the promise, and that it allows one answer only.
 use mathlib.Core.List.{List}
 use mathlib.Core.Path.{◌≡◌, refl, ap, sym, ◌∙◌}
-use native.Mathlib.Omega.{arith}
 use Prim.Native.Nat.{ℕ, zero, suc}
-use lib.Dec.{eqb, eqb-suc-zero}
+use lib.Dec.{eqb-suc-zero}
 use Rattle.demand.specs.Refusals.{table_refusal}
 use Rattle.demand.specs.Rows.{tasks_of, handlers_of}
-use Rattle.demand.specs.Tests.{pick}
 use Rattle.priority.specs.Answers.{Figures, figures, no_lengths, figures_by, ResponsesSay, ResponsesUnique}
 use Rattle.priority.specs.Responses.{leasts}
-use Rattle.priority.specs.declared.Answer.{Answer}
 use Rattle.priority.specs.declared.Answer.TheVariants.{Found, Refused}
-use Rattle.priority.specs.declared.Profile.{Profile}
 
 module _ (t h ls : List ℕ) where
   -- The lengths of a table that is not refused.

@@ -5,12 +5,12 @@
 use mathlib.Core.Bool.{Bool, true, false, ◌&&◌}
 use mathlib.Core.List.{List, [], ◌∷◌}
 use mathlib.Core.Logic.{◌⊎◌, inl, inr}
-use mathlib.Core.Path.{◌≡◌, refl, sym, ap, ap₂, ◌∙◌}
+use mathlib.Core.Path.{◌≡◌, refl, sym, ap, ◌∙◌}
 use native.Mathlib.Nat.{zero-add}
 use native.Mathlib.Omega.{arith}
 use borrow.Author.Tests.{eqb-true, ltb-true}
 use lib.Dec.{eqb, ltb, eqb-suc-zero}
-use lib.ListN.{length, get_or, replicate, get_or-eq_default}
+use lib.ListN.{length, get_or, get_or-eq_default}
 use Prim.Native.Nat.{ℕ, zero, suc, ◌+◌, ◌≤◌, ◌<◌}
 use Rattle.demand.specs.Demands.{called}
 use Rattle.demand.specs.Limits.{tasks_most}
@@ -18,10 +18,10 @@ use Rattle.demand.specs.Refusals.{table_tests, table_refusal}
 use Rattle.demand.specs.Rows.{Row, row_at, tasks_of, handlers_of, total, some}
 use Rattle.demand.specs.Tests.{pick, first_refusal}
 use Rattle.demand.proofs.Divide.{le-or-lt}
-use Rattle.priority.specs.Answers.{Figures, figures, no_lengths, figures_by, ResponsesSay}
+use Rattle.priority.specs.Answers.{no_lengths, figures_by}
 use Rattle.priority.specs.Asked.{asked_from, asked}
 use Rattle.priority.specs.Cases.{Case, cases, sheet_of, CaseHolds, EveryCase}
-use Rattle.priority.specs.Responses.{least_to, response, listed_from, listed, leasts}
+use Rattle.priority.specs.Responses.{least_to, response, listed, leasts}
 use Rattle.priority.proofs.Inside.Search.{listed_same, listed-zeros, response-past}
 use Rattle.priority.proofs.Response.{Least, least-told, below-least}
 

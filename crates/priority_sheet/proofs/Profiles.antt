@@ -1,7 +1,7 @@
 -- The lines of a profile, laid one behind the other from the start of a page.
-use mathlib.Core.Bool.{Bool, true, false, ◌&&◌}
-use mathlib.Core.List.{List, [], ◌∷◌, ◌++◌}
-use mathlib.Core.Path.{◌≡◌, refl, sym, ap, subst, ◌∙◌}
+use mathlib.Core.Bool.{Bool, true, false}
+use mathlib.Core.List.{List, ◌++◌}
+use mathlib.Core.Path.{◌≡◌, refl, sym, ap, ◌∙◌}
 use native.Mathlib.Nat.{zero-add}
 use native.Mathlib.Omega.{arith}
 use Prim.Native.Nat.{ℕ, zero, suc, ◌+◌, ◌≤◌}
@@ -14,15 +14,13 @@ use Rattle.demand.specs.Tests.{pick}
 use Rattle.demand.proofs.Refusals.{refusal-in-range}
 use Rattle.layout.specs.Refusals.{refusal_in}
 use Rattle.priority.specs.Answers.{number}
-use Rattle.priority.specs.declared.Answer.{Answer}
 use Rattle.priority.specs.declared.Answer.TheVariants.{Found, Refused}
 use Rattle.priority.specs.declared.Profile.{Profile}
-use Rattle.priority_sheet.specs.Printed.{heading, task_lines, refused_line, body_of, printed, line_most}
-use Rattle.priority_sheet.specs.Whole.{laid, profile_by, page_most}
+use Rattle.priority_sheet.specs.Printed.{heading, task_lines, refused_line, body_of, printed}
+use Rattle.priority_sheet.specs.Whole.{laid, profile_by}
 use Rattle.priority_sheet.proofs.Laid.{text-len, text-bytes, text-laid, laid_more}
-use Rattle.priority_sheet.proofs.Printed.{refused-line-most, task-lines-most}
 use Rattle.text.specs.Ascii.{crlf}
-use Rattle.text.specs.Text.{text_most, text_of, blank_text, puts_of}
+use Rattle.text.specs.Text.{text_of, blank_text, puts_of}
 use Rattle.text.specs.declared.Text.{Text}
 use Rattle.text.proofs.Writes.{puts-blank}
 

@@ -5,7 +5,7 @@ use mathlib.Core.Logic.{inl, inr}
 use mathlib.Core.Path.{◌≡◌, refl, sym, ap, subst, ◌∙◌}
 use native.Mathlib.Omega.{arith}
 use Prim.Native.Nat.{ℕ, zero, suc, ◌*◌, ◌≤◌}
-use borrow.Author.Tests.{eq-eqb, ne_eqb}
+use borrow.Author.Tests.{ne_eqb}
 use lib.Dec.{eqb, eqb-suc-zero}
 use lib.ListN.{length, take, length-append}
 use lib.Seq.{length-sets}
@@ -14,7 +14,6 @@ use Rattle.demand.specs.Refusals.{table_refusal}
 use Rattle.demand.specs.Rows.{tasks_of, handlers_of}
 use Rattle.demand.specs.Tests.{pick}
 use Rattle.demand.specs.declared.table.Kind.TheVariants.{Task, Handler}
-use Rattle.demand.proofs.Refusals.{refusal-in-range}
 use Rattle.layout.specs.File.{Entry}
 use Rattle.layout.specs.Refusals.{refusal_in}
 use Rattle.layout.specs.Table.{list_of, misplaced, ReadSays}

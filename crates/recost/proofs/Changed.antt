@@ -1,15 +1,15 @@
 -- What the rewritten file says as a table: one number changed.
 use mathlib.Core.Bool.{Bool, ◌||◌}
 use mathlib.Core.List.{List, [], ◌∷◌}
-use mathlib.Core.Path.{◌≡◌, refl, sym, ap, ◌∙◌}
+use mathlib.Core.Path.{◌≡◌, refl, ap}
 use native.Mathlib.Omega.{arith}
-use Prim.Native.Nat.{ℕ, zero, suc, ◌*◌, ◌+◌}
+use Prim.Native.Nat.{ℕ, zero, suc, ◌*◌}
 use lib.ListN.{length, get_or, set}
 use Rattle.demand.specs.Rows.{tasks_of}
 use Rattle.demand.specs.declared.table.Kind.TheVariants.{Task, Handler}
 use Rattle.layout.specs.File.{Entry, entry}
 use Rattle.layout.specs.Table.{list_of, deadline_of, is_number, misplaced}
-use Rattle.recost.specs.Rewritten.{recost, cost_in, tasks_in, Changed, TableChanged}
+use Rattle.recost.specs.Rewritten.{recost, cost_in, tasks_in, TableChanged}
 
 three : (i : ℕ) → 3 * suc i ≡ suc (suc (suc (3 * i)))
 three i = omega arith

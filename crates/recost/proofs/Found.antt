@@ -1,12 +1,12 @@
 -- The search finds the cost: lines hold no LF but at their ends, and each begins with its kind's letter.
 --   NoLf bs    no byte of bs is an LF
-use mathlib.Core.Bool.{Bool, true, false, ◌&&◌}
+use mathlib.Core.Bool.{Bool, true, false}
 use mathlib.Core.List.{List, [], ◌∷◌, ◌++◌, append_assoc}
-use mathlib.Core.Path.{◌≡◌, refl, sym, ap, ◌∙◌}
+use mathlib.Core.Path.{◌≡◌, refl, ap, ◌∙◌}
 use native.Mathlib.Nat.{sub-zero}
 use native.Mathlib.Omega.{arith}
 use borrow.Author.Tests.{ne_eqb}
-use Prim.Native.Nat.{ℕ, zero, suc, ◌+◌, ◌-◌, ◌*◌, ◌/◌, ◌%◌, ◌≤◌, ◌<◌}
+use Prim.Native.Nat.{ℕ, zero, suc, ◌+◌, ◌-◌, ◌/◌, ◌%◌}
 use lib.Dec.{eqb, ltb}
 use lib.ListN.{length, length-append, get_or}
 use Rattle.demand.specs.Tests.{pick}
@@ -20,7 +20,7 @@ use Rattle.layout.specs.declared.words.Columns.TheVariants.{Three, Four}
 use Rattle.layout.proofs.Places.{before_cost}
 use Rattle.text.specs.Ascii.{crlf}
 use Rattle.text.specs.Numbers.{last_digits, decimal, comma, field}
-use Rattle.recost.specs.Inside.Scan.{opens, behind_name, reached, cost_from}
+use Rattle.recost.specs.Inside.Scan.{behind_name, cost_from}
 use Rattle.recost.specs.Rewritten.{tasks_in}
 
 abbrev NoLf : List ℕ → Type 0

@@ -2,20 +2,20 @@
 --   Split es i c   es with task i picked out: the rows before it, the row, those behind it, and the same with cost c
 use mathlib.Core.List.{List, [], ◌∷◌, ◌++◌, append_assoc, append-nil}
 use mathlib.Core.Logic.{◌⊎◌, inl, inr}
-use mathlib.Core.Path.{◌≡◌, refl, sym, ap, ◌∙◌, subst}
+use mathlib.Core.Path.{◌≡◌, refl, sym, ap, ◌∙◌}
 use native.Mathlib.Omega.{arith}
 use Prim.Native.Nat.{ℕ, zero, suc, ◌+◌, ◌≤◌, ◌<◌}
 use lib.ListN.{length, length-append, take, drop}
 use lib.Seq.{take-append_seam, drop-append-add, drop-append_seam}
 use Rattle.demand.specs.declared.table.Kind.TheVariants.{Task, Handler}
-use Rattle.layout.specs.File.{Entry, entry, Short, file_most, file_text, Lawful, AllLawful, FileSays}
+use Rattle.layout.specs.File.{Entry, entry, Short, file_text, AllLawful}
 use Rattle.layout.specs.declared.steps.Last.{Last}
 use Rattle.layout.specs.declared.words.Columns.{Columns}
 use Rattle.layout.proofs.Places.{before_cost, behind_cost, cost-stands}
 use Rattle.text.specs.Ascii.{crlf}
 use Rattle.text.specs.Numbers.{decimal}
 use Rattle.recost.specs.Inside.Scan.{cost_from, recosted}
-use Rattle.recost.specs.Rewritten.{recost, cost_in, tasks_in, Rewritten, Kept, BytesKept, ReadBack}
+use Rattle.recost.specs.Rewritten.{recost, cost_in, tasks_in, BytesKept, ReadBack}
 use Rattle.recost.proofs.Found.{cost-found}
 use Rattle.recost.proofs.Digits.{decimal-mono}
 

@@ -1,13 +1,11 @@
 -- Two tables that are refused alike get no run alike.
 use mathlib.Core.List.{List}
-use mathlib.Core.Path.{◌≡◌, sym, ap, ◌∙◌, subst}
+use mathlib.Core.Path.{◌≡◌, sym, ap, ◌∙◌}
 use native.Mathlib.Omega.{arith}
 use borrow.Author.Tests.{ne_eqb}
 use Prim.Native.Nat.{ℕ, ◌<◌}
-use lib.Dec.{eqb}
 use Rattle.columns.specs.Held.{Alike}
 use Rattle.demand.specs.Refusals.{table_refusal}
-use Rattle.demand.specs.Tests.{pick}
 use Rattle.scheduler.specs.Promise.{FreshSays}
 use Rattle.scheduler.specs.Start.{fresh_of, no_run}
 use Rattle.scheduler.specs.declared.Fresh.{Fresh}

@@ -1,6 +1,6 @@
 -- The reader accepts exactly the texts of the layout, and reads what they say: a file says one list of rows at most.
 use mathlib.Core.Bool.{Bool, true, false}
-use mathlib.Core.List.{List, [], ◌∷◌, ◌++◌}
+use mathlib.Core.List.{List, [], ◌++◌}
 use mathlib.Core.Logic.{◌⊎◌, inl, inr}
 use mathlib.Core.Path.{◌≡◌, refl, sym, ap, subst, ◌∙◌}
 use native.Mathlib.Omega.{arith}
@@ -11,7 +11,7 @@ use lib.ListN.{length, take, length-append}
 use lib.Seq.{take-append_seam}
 use Rattle.demand.specs.Tests.{pick}
 use Rattle.schedule_file.specs.File.{Entry, file_text, AllLawful, FileSays, OneList}
-use Rattle.schedule_file.specs.Inside.Building.{Outcome, none, some, few, few_of, Reading, read_from, read_over, rows_at_end, outcome}
+use Rattle.schedule_file.specs.Inside.Building.{Outcome, none, some, few_of, Reading, read_from, read_over, rows_at_end, outcome}
 use Rattle.schedule_file.specs.Inside.Steps.{is_start}
 use Rattle.schedule_file.specs.declared.steps.State.{State}
 use Rattle.schedule_file.specs.declared.steps.State.TheVariants.{Broken, Head, HeadCr, Start, First, Digits, RowCr}

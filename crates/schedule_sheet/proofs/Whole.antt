@@ -1,14 +1,12 @@
 -- The whole: the output meets the promise, and the promise allows no other.
 use mathlib.Core.Bool.{Bool, true, false}
 use mathlib.Core.List.{List, [], ◌∷◌}
-use mathlib.Core.Logic.{◌⊎◌, inl, inr}
+use mathlib.Core.Logic.{inl, inr}
 use mathlib.Core.Path.{◌≡◌, refl, sym, ap, subst, ◌∙◌}
-use native.Mathlib.Nat.{eq-zero-or-pos}
 use native.Mathlib.Omega.{arith}
 use borrow.Author.Tests.{eq-eqb, ne_eqb}
-use lib.ListN.{length, take, replicate, length-append}
-use lib.Seq.{take-append_seam}
-use Prim.Native.Nat.{ℕ, ◌+◌, ◌-◌, ◌≤◌, ◌<◌}
+use lib.ListN.{take}
+use Prim.Native.Nat.{ℕ, ◌<◌}
 use Rattle.demand.specs.Refusals.{table_refusal}
 use Rattle.demand.specs.Tests.{pick}
 use Rattle.demand.specs.declared.table.Kind.TheVariants.{Task, Handler}
@@ -19,16 +17,16 @@ use Rattle.layout.specs.Table.{list_of, misplaced}
 use Rattle.layout.specs.declared.reader.Table.{Table}
 use Rattle.layout.proofs.File as table-laws
 use Rattle.layout.proofs.Table.{listed, flat-listed}
-use Rattle.schedule_file.specs.File.{Entry, FileSays}
-use Rattle.schedule_file.specs.Schedule.{numbers_of, numbers_most, filled, ReadSays}
+use Rattle.schedule_file.specs.File.{Entry}
+use Rattle.schedule_file.specs.Schedule.{numbers_of, ReadSays}
 use Rattle.schedule_file.specs.declared.reader.Schedule.{Schedule}
 use Rattle.schedule_file.proofs.File.{says-unique}
 use Rattle.schedule_file.proofs.Read.{ReadCase, said, unsaid, read-cases, filled-take}
 use Rattle.schedule_sheet.specs.Printed.{printed}
 use Rattle.schedule_sheet.specs.Whole.{broken_refusal, ScheduleFigures, TableFigures, FileFigures, output_of, JudgedSays, OneJudgement}
 use Rattle.schedule_sheet.specs.declared.Output.{Output}
-use Rattle.segments.specs.Promise.{Figures, figures, refusal_of, Word, SaysAccepted}
-use Rattle.segments.specs.Promise.{SaysBroken, SaysRefused, SaysBy, Says, JudgeSays, judge_refusal}
+use Rattle.segments.specs.Promise.{Figures, figures, refusal_of, Word}
+use Rattle.segments.specs.Promise.{SaysBy, Says, JudgeSays, judge_refusal}
 use Rattle.segments.specs.Promise.Word.{accepted, broken, refused}
 use Rattle.segments.specs.declared.Answer.{Answer}
 use Rattle.segments.specs.declared.Answer.TheVariants as answer
@@ -36,7 +34,6 @@ use Rattle.segments.proofs.Answers as judged
 use Rattle.segments.proofs.Refusals.{torn-refusal}
 use Rattle.text.specs.Text.{Fits}
 use Rattle.text.proofs.Writes.{text-fits}
-use Rattle.verdict.specs.Promise.{verdict_refusal}
 
 clash : (P : Type 0) → true ≡ false → P
 clash P e =

@@ -2,14 +2,13 @@
 use mathlib.Core.List.{List}
 use mathlib.Core.Path.{◌≡◌, refl, sym, ap, ◌∙◌}
 use native.Mathlib.Omega.{arith}
-use Prim.Native.Nat.{ℕ, zero, suc, ◌-◌, ◌<◌}
-use Rattle.demand.specs.Refusals.{InRange}
-use Rattle.demand.specs.Rows.{Row, tasks_of, handlers_of, Positive, Valid}
+use Prim.Native.Nat.{ℕ, ◌<◌}
+use Rattle.demand.specs.Rows.{tasks_of, handlers_of, Positive, Valid}
 use Rattle.demand.proofs.Inside.Sizes.{fair-positive}
 use Rattle.segments.specs.Inside.{Outcome, fine, judge}
 use Rattle.segments.specs.Inside as inside
-use Rattle.segments.specs.Promise.{Word, Figures, figures, accepted_of, broken_of, refusal_of, judge_refusal}
-use Rattle.segments.specs.Promise.{SaysAccepted, SaysBroken, SaysRefused, SaysBy, Says, JudgeSays}
+use Rattle.segments.specs.Promise.{Word, Figures, figures, broken_of, refusal_of, judge_refusal}
+use Rattle.segments.specs.Promise.{SaysAccepted, SaysBroken, SaysBy, Says, JudgeSays}
 use Rattle.segments.specs.Promise.Word.{accepted, broken, refused}
 use Rattle.segments.specs.Segments.{segments_of, InOrder, at}
 use Rattle.segments.specs.Unique.{JudgeUnique}

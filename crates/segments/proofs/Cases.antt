@@ -2,7 +2,7 @@
 --   answer_by k o      == the figures of a refusal k, or where that is 0 of the outcome o
 --   answer_of c        == those of a case
 --   answers, tolds    == those of each case, and those that are told
-use mathlib.Core.List.{List, [], ◌∷◌, ◌++◌}
+use mathlib.Core.List.{List, [], ◌∷◌}
 use mathlib.Core.Path.{◌≡◌, refl, sym, ap, subst}
 use native.Mathlib.Omega.{arith}
 use Prim.Native.Nat.{ℕ, zero, suc}
@@ -15,7 +15,7 @@ use Rattle.segments.specs.Cases.{Case, crowd, accepted_cases, broken_cases, refu
 use Rattle.segments.specs.Given.{task_ticks, handler_ticks}
 use Rattle.segments.specs.Inside.{Outcome, fine, broken, judge, waits_of, lates_of}
 use Rattle.segments.specs.Promise.{Figures, figures, accepted_of, broken_of, refusal_of, disordered, judge_tests, judge_refusal}
-use Rattle.segments.specs.Promise.{SaysBy, Says, JudgeSays}
+use Rattle.segments.specs.Promise.{Says, JudgeSays}
 use Rattle.segments.specs.Segments.{segments_of, at}
 use Rattle.segments.proofs.Answers.{says-refused, says-accepted, says-broken, says-unique}
 use Rattle.verdict.specs.Multiples.{common}

@@ -4,8 +4,7 @@ use mathlib.Core.Path.{◌≡◌, refl}
 use native.Mathlib.Nat.{zero-add, sub-zero}
 use native.Mathlib.Omega.{arith}
 use Prim.Native.Nat.{ℕ, zero, suc, ◌+◌, ◌≤◌}
-use Rattle.demand.specs.Demands.{Passes}
-use Rattle.demand.specs.Rows.{Row, row_at, Positive, Valid}
+use Rattle.demand.specs.Rows.{Row, Positive, Valid}
 use Rattle.demand.proofs.Sums.{valid-positive}
 use Rattle.machine.specs.Live.{Live, arrive_all}
 use Rattle.machine.specs.Schedules.{beats, ran-none, Gave, to-handlers, to-tasks, Timely, start, onward}

@@ -5,8 +5,8 @@ use mathlib.Core.Logic.{◌⊎◌, inl, inr}
 use mathlib.Core.Path.{◌≡◌, refl, sym, ap, ◌∙◌, subst}
 use native.Mathlib.Omega.{arith}
 use borrow.Author.Tests.{eq-eqb, ne_eqb}
-use Prim.Native.Nat.{ℕ, ◌*◌, ◌<◌}
-use lib.ListN.{length, get_or}
+use Prim.Native.Nat.{ℕ, ◌<◌}
+use lib.ListN.{length}
 use Rattle.demand.specs.Refusals.{table_refusal}
 use Rattle.demand.specs.Rows.{tasks_of}
 use Rattle.demand.specs.Tests.{pick}
@@ -24,7 +24,7 @@ use Rattle.recost.proofs.Changed.{table-changed}
 use Rattle.recost.proofs.Rewritten.{found_within, rewrites}
 use Rattle.text.specs.Ascii.{crlf}
 use Rattle.trim.specs.Costs.{cost_at}
-use Rattle.trim.specs.Promise.{figures, TrimSays, Says, SaysBy, SaysCost}
+use Rattle.trim.specs.Promise.{figures, TrimSays, Says, SaysBy}
 use Rattle.trim.specs.declared.Answer.{Answer}
 use Rattle.trim.specs.declared.Answer.TheVariants as answer
 use Rattle.trim.proofs.Answers.{answered-readable, trim-unique}

@@ -1,12 +1,11 @@
 -- Parts laid one behind the other are a page on which all of it is written.
-use mathlib.Core.List.{List, [], ◌∷◌, ◌++◌, append_assoc, append-nil}
+use mathlib.Core.List.{List, [], ◌++◌, append_assoc, append-nil}
 use mathlib.Core.Path.{◌≡◌, refl, sym, ap, ◌∙◌, subst}
 use native.Mathlib.Nat.{zero-add}
 use native.Mathlib.Omega.{arith}
 use Prim.Native.Nat.{ℕ, ◌+◌, ◌-◌, ◌≤◌}
 use lib.ListN.{length, length-append, length-replicate, length-drop, replicate, take, drop}
 use lib.Seq.{take-append_seam, length-take-le}
-use Rattle.layout.specs.File.{file_most}
 use Rattle.page.specs.Laid.{end_of, laid}
 use Rattle.page.proofs.Laid.{end-room, laid-room, laid-append, laid-length}
 use Rattle.recost.specs.Inside.Scan.{cost_from, recosted}

@@ -1,12 +1,12 @@
 -- A table in finer ticks (specs/FinerTicks): the answer.
 use mathlib.Core.List.{List}
-use mathlib.Core.Path.{◌≡◌, ap, sym, subst, ◌∙◌}
+use mathlib.Core.Path.{◌≡◌, ap, sym, ◌∙◌}
 use native.Mathlib.Nat.{mul-zero}
 use native.Mathlib.Omega.{arith}
 use Prim.Native.Nat.{ℕ, ◌*◌, ◌<◌}
 use Rattle.demand.specs.Demands.{handled, left, due}
 use Rattle.demand.specs.Refusals.{InRange}
-use Rattle.demand.specs.Rows.{Row, Positive, tasks_of, handlers_of}
+use Rattle.demand.specs.Rows.{Positive, tasks_of, handlers_of}
 use Rattle.demand.proofs.Inside.Sizes.{fair-positive}
 use Rattle.verdict.specs.Loads.{load}
 use Rattle.verdict.specs.Promise.{Word, Figures, figures, yes_of, no_of, miss_at, verdict_refusal, SaysFits, SaysMisses, SaysBy, Says, VerdictSays}

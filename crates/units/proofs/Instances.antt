@@ -2,7 +2,7 @@
 -- with its tasks swapped, a yes, work left over; and why a task is not to be swapped with a handler.
 use mathlib.Core.Bool.{true}
 use mathlib.Core.List.{List, [], ◌∷◌}
-use mathlib.Core.Path.{◌≡◌, refl, ap, sym, ◌∙◌}
+use mathlib.Core.Path.{◌≡◌, refl, ap, sym}
 use native.Mathlib.Omega.{arith}
 use Prim.Native.Nat.{ℕ}
 use Rattle.demand.specs.Demands.{grow, taken, called, handled, left, due}

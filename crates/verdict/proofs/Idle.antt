@@ -22,12 +22,11 @@ use Rattle.verdict.specs.Inside.Search.{search_end}
 use Rattle.verdict.specs.Idle.{asks, Idle, IdleBy, NoIdle, IdleEnds, IdleWhere}
 use Rattle.verdict.specs.Loads.{work, whole}
 use Rattle.verdict.specs.Multiples.{common}
-use Rattle.verdict.specs.Lengths.{AlwaysPasses, LeastFailing}
+use Rattle.verdict.specs.Lengths.{AlwaysPasses}
 use Rattle.verdict.proofs.Divisors.{common-positive, common-tasks, common-handlers, common-least}
 use Rattle.verdict.proofs.Facts.Drain.{drain-ends}
 use Rattle.verdict.proofs.Facts.Ends.{end-enough}
 use Rattle.verdict.proofs.Facts.Shares.{called-whole, called-share}
-use Rattle.verdict.proofs.Lengths.{fits-never-fails}
 use Rattle.verdict.proofs.Loads.{work-cons}
 
 -- ---- what is asked for

@@ -5,7 +5,7 @@
 --   NoIdle ts hs     there is none
 --   IdleEnds ts hs   if no length up to the idle point fails, none does
 --   IdleWhere ts hs  there is one, and it is at most H, where W is at most H; there is none where W is above H; it is H where W is H
-use Rattle.std.specs.Prelude.{List, [], ◌≡◌, ℕ, ◌+◌, ◌*◌, ◌/◌, ◌≤◌, ◌<◌}
+use Rattle.std.specs.Prelude.{List, ◌≡◌, ℕ, ◌+◌, ◌≤◌, ◌<◌}
 use Rattle.demand.specs.Demands.{called_by, called}
 use Rattle.demand.specs.Rows.{Row, total}
 use Rattle.verdict.specs.Facts.{PassesTo}

@@ -6,7 +6,7 @@
 --   answer_numbers r      == those of an answer, behind the number of its word
 --   miss_at ts hs l       == what is told of an interval of l ticks that fails
 --   VerdictSays t h r    r is the answer to the table t, h
-use Rattle.std.specs.Prelude.{List, [], ◌∷◌, ◌++◌, ◌≡◌, ℕ, ◌-◌, ◌<◌, ltb}
+use Rattle.std.specs.Prelude.{List, [], ◌∷◌, ◌++◌, ◌≡◌, ℕ, ◌<◌, ltb}
 use Rattle.demand.specs.Demands.{handled, left, due}
 use Rattle.demand.specs.Limits.{ticks_most}
 use Rattle.demand.specs.Refusals.{table_tests}

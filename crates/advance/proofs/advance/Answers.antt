@@ -1,5 +1,4 @@
-use borrow.Author.Rules.{rules}
-use Rattle.advance.proofs.Turns.{Gone, pieces_left, gone-start, gone-turn, gone-fewer, gone-end, none-gone, going}
+use Rattle.advance.proofs.Turns.{gone-start, gone-turn, gone-fewer, gone-end, none-gone, going}
 use Rattle.advance.proofs.advance.Goals as goal
 
 pub returns-then-ticks-eq0 : goal.returns-then-ticks-eq0

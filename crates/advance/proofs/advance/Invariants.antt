@@ -1,5 +1,4 @@
-use borrow.Author.Rules.{rules}
-use Rattle.advance.proofs.Turns.{Gone, pieces_left, gone-start, gone-turn, gone-fewer, gone-end, none-gone, going}
+use Rattle.advance.proofs.Turns.{Gone, pieces_left}
 use Rattle.advance.proofs.advance.Given as goal
 
 abbrev pub invariant-loop-left : goal.invariant-loop-left

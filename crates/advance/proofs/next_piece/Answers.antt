@@ -1,5 +1,4 @@
 use Rattle.advance.proofs.Promise.{says-refused, says_none, says-follows, says-whole}
-use borrow.Author.Rules.{rules}
 use Rattle.advance.proofs.next_piece.Goals as goal
 
 pub piece_after-requires : goal.piece_after-requires

@@ -1,4 +1,3 @@
-use borrow.Author.Rules.{rules}
 use borrow.Author.Tests.{not-true, not-false}
 use Rattle.columns.proofs.Lent.{held-counted, from-rows, from-counts}
 use Rattle.verdict.specs.Promise.{VerdictSays}

@@ -1,5 +1,4 @@
 use Rattle.priority_sheet.proofs.Whole.{page-lent}
-use borrow.Author.Rules.{rules}
 use Rattle.by_priority.proofs.answer.Goals as goal
 
 pub slice_bounds-page-end : goal.slice_bounds-page-end

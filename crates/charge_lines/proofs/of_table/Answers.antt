@@ -2,7 +2,6 @@ use mathlib.Core.Path.{refl}
 use Rattle.charge_lines.proofs.Quoting.{name-count, line-laid}
 use Rattle.charge_lines.specs.Line.{tail_of}
 use Rattle.text.proofs.Writes.{text-fits}
-use borrow.Author.Rules.{rules}
 use Rattle.charge_lines.proofs.of_table.Goals as goal
 
 pub slice_bounds-field-end-2 : goal.slice_bounds-field-end-2

@@ -1,9 +1,7 @@
 use native.Mathlib.Omega.{arith}
 use native.Mathlib.Nat.{pos_of_ne-zero}
 use mathlib.Core.Path.{sym, ◌∙◌}
-use borrow.Author.Tests.{not-true, not-false}
 use Rattle.charges.proofs.Answers.{quantum-unknown, quantum-useless, quantum-charged, can-load, can-charge, handlers-small, inside-short}
-use borrow.Author.Rules.{rules}
 use Rattle.charges.proofs.by_quantum.Goals as goal
 
 pub returns-then-not-known : goal.returns-then-not-known

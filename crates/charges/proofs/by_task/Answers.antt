@@ -1,7 +1,5 @@
 use mathlib.Core.Path.{sym, ◌∙◌}
-use borrow.Author.Tests.{not-true, not-false}
 use Rattle.charges.proofs.Answers.{task-unknown, task-charged, can-load, can-charge}
-use borrow.Author.Rules.{rules}
 use Rattle.charges.proofs.by_task.Goals as goal
 
 pub returns-then-not-known : goal.returns-then-not-known

@@ -1,6 +1,4 @@
-use mathlib.Core.Path.{refl}
 use Rattle.charges.proofs.Answers.{told-known, says-charged, says-19}
-use borrow.Author.Rules.{rules}
 use Rattle.charges.proofs.of_table.Goals as goal
 
 pub returns-then-quantum : goal.returns-then-quantum

@@ -1,6 +1,4 @@
-use mathlib.Core.Bool.{Bool, ◌||◌, true, false}
-use mathlib.Core.Path.{◌≡◌, sym, ◌∙◌}
-use borrow.Author.Rules.{rules}
+use mathlib.Core.Path.{sym, ◌∙◌}
 use Rattle.demand.proofs.Refusals.{neither}
 use Rattle.demand.specs.declared.table.Kind.TheVariants.{Task, Handler}
 use Rattle.columns.specs.Held.{unheld}

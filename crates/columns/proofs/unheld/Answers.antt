@@ -1,5 +1,4 @@
 use native.Mathlib.Omega.{arith}
-use borrow.Author.Rules.{rules}
 use Rattle.demand.proofs.Inside.Slices.{width-least}
 use Rattle.columns.proofs.unheld.Goals as goal
 

@@ -1,6 +1,5 @@
 use mathlib.Core.Path.{sym, ap}
 use Rattle.cowriedash.specs.Numbers.{handler_numbers}
-use borrow.Author.Rules.{rules}
 use Rattle.cowriedash.proofs.handler_numbers.Goals as goal
 
 pub returns-in-Ticks : goal.returns-in-Ticks

@@ -3,7 +3,6 @@ use mir.Syntax.{w64}
 use mir.ValLaws.{to_z-of_z}
 use Rattle.demand.specs.Answers.{margin_figures}
 use Rattle.demand.specs.declared.MarginAnswer.{MarginAnswer}
-use borrow.Author.Rules.{rules}
 use Rattle.cowriedash.proofs.tell.Goals as goal
 
 pub returns-in-Ticks : goal.returns-in-Ticks

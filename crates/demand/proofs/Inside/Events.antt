@@ -12,7 +12,7 @@ use Rattle.demand.specs.Inside.Events.{first_of, work_by, work_of, Placeable, Be
 use Rattle.demand.specs.Inside.Sizes.{due_most, Small}
 use Rattle.demand.specs.Limits.{figure_most, tasks_most}
 use Rattle.demand.specs.Refusals.{FairRow}
-use Rattle.demand.specs.Rows.{Row, handlers_of, rows_of, rest, width, total, Each, Positive, Sound, Valid}
+use Rattle.demand.specs.Rows.{Row, handlers_of, rows_of, rest, width, Each, Positive, Sound, Valid}
 use Rattle.demand.specs.declared.events.Event.{Event}
 use Rattle.demand.specs.declared.events.Event.TheVariants.{Arrival, Deadline}
 use Rattle.demand.specs.declared.table.Kind.{Kind}

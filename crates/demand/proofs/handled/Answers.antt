@@ -4,7 +4,6 @@ use Rattle.demand.specs.Rows.{handlers_of}
 use Rattle.demand.proofs.Demands.{handled-le}
 use Rattle.demand.proofs.Inside.Sizes.{fair-positive, small-less}
 use Rattle.demand.proofs.Wholes.{own_read, all_read, wholes-read}
-use borrow.Author.Rules.{rules}
 use Rattle.demand.proofs.handled.Goals as goal
 
 pub called-work-requires : goal.called-work-requires

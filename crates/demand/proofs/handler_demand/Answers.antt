@@ -1,7 +1,6 @@
 use mathlib.Core.Path.{sym, ◌∙◌}
 use Rattle.demand.proofs.Answers.{handler-answered, handler-refused}
 use Rattle.demand.proofs.Inside.Sizes.{handlers-small}
-use borrow.Author.Rules.{rules}
 use Rattle.demand.proofs.handler_demand.Goals as goal
 
 pub handled-ticks-requires : goal.handled-ticks-requires

@@ -2,7 +2,6 @@ use native.Mathlib.Omega.{arith}
 use Rattle.demand.specs.Demands.{left}
 use Rattle.demand.specs.Rows.{handlers_of}
 use Rattle.demand.proofs.Demands.{handled-le-called}
-use borrow.Author.Rules.{rules}
 use Rattle.demand.proofs.left.Goals as goal
 
 pub overflow_sub-result : goal.overflow_sub-result

@@ -7,7 +7,6 @@ use Rattle.demand.proofs.Answers.{margin-answered, margin-refused}
 use Rattle.demand.proofs.Demands.{handled-le}
 use Rattle.demand.proofs.Signs.{margin-read}
 use Rattle.demand.proofs.Inside.Sizes.{tasks-small, handlers-small, due-most}
-use borrow.Author.Rules.{rules}
 use Rattle.demand.proofs.margin.Goals as goal
 
 pub handled-f-requires : goal.handled-f-requires

@@ -1,7 +1,6 @@
 use mathlib.Core.Path.{sym, ◌∙◌}
 use Rattle.demand.proofs.Answers.{demand-answered, demand-refused}
 use Rattle.demand.proofs.Inside.Sizes.{tasks-small}
-use borrow.Author.Rules.{rules}
 use Rattle.demand.proofs.task_demand.Goals as goal
 
 pub due-requires : goal.due-requires

@@ -1,7 +1,6 @@
 use native.Mathlib.Omega.{arith}
 use Rattle.demand.proofs.Inside.Arrivals.{begun-level, begun-handled}
 use Rattle.demand.proofs.Inside.Events.{handlers-placeable}
-use borrow.Author.Rules.{rules}
 use Rattle.demand.proofs.walked.Goals as goal
 
 pub begin-k-requires : goal.begin-k-requires

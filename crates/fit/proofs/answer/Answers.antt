@@ -1,5 +1,4 @@
 use Rattle.sheet.proofs.Whole.{sheet-fits}
-use borrow.Author.Rules.{rules}
 use Rattle.fit.proofs.answer.Goals as goal
 
 pub print-written-requires : goal.print-written-requires

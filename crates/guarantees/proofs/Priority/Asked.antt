@@ -1,14 +1,14 @@
 -- What is asked, in the terms of the invariant: so a response is a length with room.
-use mathlib.Core.Bool.{◌&&◌, ◌||◌}
+use mathlib.Core.Bool.{◌||◌}
 use mathlib.Core.List.{List, [], ◌∷◌}
 use mathlib.Core.Logic.{◌⊎◌, inl, inr}
 use mathlib.Core.Path.{◌≡◌, refl, sym, ap, ◌∙◌}
 use native.Mathlib.Nat.{zero-add, eq-or-lt_of_le}
 use native.Mathlib.Omega.{arith}
 use borrow.Author.Tests.{eq-eqb, ne_eqb, lt-ltb, le-ltb}
-use Prim.Native.Nat.{ℕ, zero, suc, ◌+◌, ◌-◌, ◌≤◌, ◌<◌, min}
-use lib.Dec.{ltb, eqb}
-use lib.ListN.{length, get_or}
+use Prim.Native.Nat.{ℕ, suc, ◌+◌, ◌-◌, ◌≤◌, ◌<◌, min}
+use lib.Dec.{eqb}
+use lib.ListN.{length}
 use Rattle.demand.specs.Demands.{called_by, called}
 use Rattle.demand.specs.Rows.{Row, row_at}
 use Rattle.demand.specs.Tests.{pick}

@@ -1,10 +1,10 @@
 -- A task without a response: the synchronous run by priority is late by its first deadline. So responses are exact.
 --   on-time-or   a list of tasks is on time or it is not
 --   FirstLate    the first clock up to d at which the machine is late
-use mathlib.Core.Bool.{true, false, true≢false}
+use mathlib.Core.Bool.{true≢false}
 use mathlib.Core.List.{List, [], ◌∷◌}
 use mathlib.Core.Logic.{◌⊎◌, inl, inr}
-use mathlib.Core.Path.{◌≡◌, refl, sym, ap, subst, ◌∙◌}
+use mathlib.Core.Path.{◌≡◌, sym, subst, ◌∙◌}
 use native.Mathlib.Nat.{eq-or-lt_of_le, eq-zero-or-pos}
 use native.Mathlib.Omega.{arith}
 use Prim.Native.Nat.{ℕ, zero, suc, ◌+◌, ◌≤◌, ◌<◌}

@@ -4,7 +4,7 @@
 use mathlib.Core.List.{List, [], ◌∷◌}
 use mathlib.Core.Path.{◌≡◌, refl, sym, ap, subst, ◌∙◌}
 use native.Mathlib.Omega.{arith}
-use Prim.Native.Nat.{ℕ, zero, suc, ◌-◌, ◌≤◌, ◌<◌}
+use Prim.Native.Nat.{ℕ, zero, suc, ◌-◌, ◌<◌}
 use lib.ListN.{length}
 use Rattle.demand.specs.Demands.{Passes}
 use Rattle.demand.specs.Rows.{Row, row_at, Positive, Valid}

@@ -9,7 +9,7 @@ use Rattle.demand.specs.Refusals.{table_refusal}
 use Rattle.demand.specs.Rows.{tasks_of, handlers_of}
 use Rattle.demand.proofs.Refusals.{refusal-in-range}
 use Rattle.priority.specs.Answers as priority
-use Rattle.priority.specs.Responses.{response, listed, leasts, Responds}
+use Rattle.priority.specs.Responses.{response, leasts, Responds}
 use Rattle.priority.specs.declared.Profile.{Profile}
 use Rattle.priority.proofs.Inside.Search.{listed_at}
 use Rattle.guarantees.specs.Priority.{length_of, EachResponds}

@@ -9,14 +9,13 @@ use native.Mathlib.Numerals.{add-one}
 use native.Mathlib.Omega.{arith}
 use lib.ListN.{length, get_or, set, length-set, take}
 use lib.Seq.{get_or-set_same, get_or-set_other, take-suc}
-use Prim.Native.Nat.{ℕ, zero, suc, ◌+◌, ◌-◌, ◌<◌, ◌≤◌}
+use Prim.Native.Nat.{ℕ, zero, suc, ◌+◌, ◌<◌, ◌≤◌}
 use Rattle.demand.proofs.Divide.{le-or-lt}
 use Rattle.guard_file.specs.File.{Short, guard_text, Lawful, header, file_text, body, AllLawful}
-use Rattle.guard_file.specs.Inside.Steps.{fields, word_of, given, guard_of, behind}
+use Rattle.guard_file.specs.Inside.Steps.{fields, word_of, given, guard_of}
 use Rattle.guard_file.specs.declared.words.Kind.{Kind}
 use Rattle.guard_file.specs.declared.words.Kind.TheVariants.{Single, Burst}
 use Rattle.guards.specs.declared.Guard.{Guard}
-use Rattle.text.proofs.Tests.{by}
 use Rattle.text.specs.Ascii.{crlf}
 use Rattle.text.specs.Numbers.{comma, field}
 

@@ -4,13 +4,13 @@ use mathlib.Core.List.{List, [], ◌∷◌, ◌++◌, append-nil, append_assoc}
 use mathlib.Core.Logic.{◌⊎◌, inl, inr}
 use mathlib.Core.Path.{◌≡◌, refl}
 use native.Mathlib.Omega.{arith}
-use Prim.Native.Nat.{ℕ, ◌+◌, ◌-◌, ◌<◌, ◌≤◌}
+use Prim.Native.Nat.{ℕ, ◌<◌, ◌≤◌}
 use borrow.Author.Tests.{ltb-true, ltb-false, eqb-true}
 use lib.Dec.{eqb}
 use lib.ListN.{length, get_or, replicate, get_or-replicate, length-replicate, get_or-eq_default}
 use Rattle.demand.specs.Tests.{pick}
 use Rattle.demand.proofs.Divide.{le-or-lt}
-use Rattle.guard_file.specs.Inside.Building.{Reading, done, added, next, read_from, read_over, unread}
+use Rattle.guard_file.specs.Inside.Building.{Reading, added, next, read_from, read_over, unread}
 use Rattle.guard_file.specs.Inside.Steps.{fields, after_byte, noted, guard_of}
 use Rattle.guard_file.specs.declared.steps.State.{State}
 use Rattle.guard_file.specs.declared.steps.State.TheVariants.{Broken, Head, HeadCr, Start, Name, First, Digits, RowCr}

@@ -6,12 +6,12 @@ use mathlib.Core.Bool.{Bool, true, false}
 use mathlib.Core.List.{List, [], ◌∷◌}
 use mathlib.Core.Path.{◌≡◌, refl, ap, ◌∙◌}
 use native.Mathlib.Omega.{arith}
-use Prim.Native.Nat.{ℕ, zero, suc, ◌+◌, ◌-◌, ◌<◌, ◌≤◌}
+use Prim.Native.Nat.{ℕ, zero, suc, ◌+◌, ◌<◌, ◌≤◌}
 use lib.ListN.{length, get_or, set, length-set}
 use lib.Seq.{get_or-set_same, get_or-set_other}
 use Rattle.demand.specs.Tests.{pick}
 use Rattle.guard_file.specs.File.{Short, Lawful}
-use Rattle.guard_file.specs.Inside.Steps.{fields, given, noted, guard_of}
+use Rattle.guard_file.specs.Inside.Steps.{fields, given, guard_of}
 use Rattle.guard_file.specs.declared.words.Kind.{Kind}
 use Rattle.guard_file.specs.declared.words.Kind.TheVariants.{Single, Burst}
 use Rattle.guards.specs.declared.Guard.{Guard}

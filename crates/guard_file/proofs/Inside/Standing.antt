@@ -12,7 +12,6 @@ use lib.ListN.{length, get_or, take}
 use lib.Seq.{take_all, get_or-set_same}
 use Rattle.demand.specs.Tests.{pick}
 use Rattle.guard_file.specs.File.{digits_most, Short, header, guard_text, file_text, AllLawful}
-use Rattle.guard_file.specs.Inside.Building.{next}
 use Rattle.guard_file.specs.Inside.Steps.{fields, word_of, given, behind, after, noted, guard_of}
 use Rattle.guard_file.specs.declared.steps.State.{State}
 use Rattle.guard_file.specs.declared.steps.State.TheVariants.{Broken, Head, HeadCr, Start, Name, First, Digits, RowCr}

@@ -1,5 +1,4 @@
 use Rattle.guard_file.proofs.Whole.{page-says}
-use borrow.Author.Rules.{rules}
 use Rattle.guard_file.proofs.answer.Goals as goal
 
 pub returns : goal.returns

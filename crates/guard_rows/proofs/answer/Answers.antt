@@ -1,5 +1,4 @@
 use Rattle.guard_file.proofs.Lent.{page-lent}
-use borrow.Author.Rules.{rules}
 use Rattle.guard_rows.proofs.answer.Goals as goal
 
 pub slice_bounds-page-end : goal.slice_bounds-page-end

@@ -1,6 +1,5 @@
 use native.Mathlib.Omega.{arith}
 use Rattle.guards.proofs.Answers.{rows-fair, inside-rows, outside-rows}
-use borrow.Author.Rules.{rules}
 use Rattle.guards.proofs.ranged.Goals as goal
 
 pub returns-then-row_outside : goal.returns-then-row_outside

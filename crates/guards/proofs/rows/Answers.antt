@@ -1,7 +1,6 @@
 use mathlib.Core.Path.{refl}
 use native.Mathlib.Omega.{arith}
 use Rattle.guards.proofs.Answers.{burst-small, burst-says, rows-say-read}
-use borrow.Author.Rules.{rules}
 use Rattle.guards.proofs.rows.Goals as goal
 
 pub returns-then-n : goal.returns-then-n

@@ -1,4 +1,3 @@
-use borrow.Author.Rules.{rules}
 use Rattle.harness.proofs.fresh_by.Goals as goal
 
 pub returns-then-by_column : goal.returns-then-by_column

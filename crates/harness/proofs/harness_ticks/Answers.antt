@@ -1,14 +1,12 @@
 use mathlib.Core.Path.{◌≡◌, ap, ◌∙◌}
 use native.Mathlib.Omega.{arith}
-use Prim.Native.Nat.{◌+◌, ◌-◌, ◌≤◌}
 use lib.ListN.{replicate}
-use borrow.Author.Rules.{rules}
 use Rattle.machine.specs.Live.{due_of}
 use Rattle.scheduler.specs.Books.{busy_by}
 use Rattle.scheduler.specs.Steps.{step_of}
 use Rattle.scheduler.specs.declared.Fresh.{Fresh}
 use Rattle.scheduler.specs.declared.Stepped.{Stepped}
-use Rattle.harness.proofs.Counted.{busy-most, to_come, to-come-start, to-come-turn, to-come-end}
+use Rattle.harness.proofs.Counted.{busy-most, to-come-start, to-come-turn, to-come-end}
 use Rattle.harness.proofs.harness_ticks.Goals as goal
 
 pub loop-i-init : goal.loop-i-init

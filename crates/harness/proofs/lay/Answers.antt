@@ -1,4 +1,3 @@
-use borrow.Author.Rules.{rules}
 use Rattle.harness.proofs.Laid.{laid-ticked, ticked-late, laid-refused}
 use Rattle.harness.proofs.lay.Goals as goal
 

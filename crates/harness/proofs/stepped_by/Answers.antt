@@ -1,4 +1,3 @@
-use borrow.Author.Rules.{rules}
 use Rattle.harness.proofs.stepped_by.Goals as goal
 
 pub returns-then-ranked : goal.returns-then-ranked

@@ -3,8 +3,8 @@ use mathlib.Core.List.{List, [], ◌∷◌}
 use mathlib.Core.Path.{◌≡◌, refl, ap}
 use native.Mathlib.Nat.{mul-zero, sub-zero}
 use native.Mathlib.Omega.{arith}
-use Prim.Native.Nat.{ℕ, zero, suc, ◌+◌, ◌-◌, ◌*◌, ◌≤◌, ◌<◌, min}
-use lib.ListN.{length, get_or}
+use Prim.Native.Nat.{ℕ, zero, suc, ◌+◌, ◌-◌, ◌≤◌, ◌<◌}
+use lib.ListN.{length}
 use Rattle.demand.specs.Demands.{ceil}
 use Rattle.demand.specs.Rows.{Row, row_at, Positive}
 use Rattle.demand.proofs.Divide.{ceil-zero}

@@ -4,10 +4,10 @@
 use mathlib.Core.List.{List, [], ◌∷◌}
 use mathlib.Core.Path.{◌≡◌, refl, ap}
 use native.Mathlib.Omega.{arith}
-use Prim.Native.Nat.{ℕ, zero, suc, ◌+◌, ◌-◌, ◌*◌, ◌≤◌, ◌<◌, min}
-use lib.ListN.{length, get_or}
+use Prim.Native.Nat.{ℕ, zero, suc, ◌+◌, ◌*◌, ◌≤◌, ◌<◌}
+use lib.ListN.{length}
 use Rattle.demand.specs.Demands.{ceil}
-use Rattle.demand.specs.Rows.{Row, no_row, row_at}
+use Rattle.demand.specs.Rows.{Row, row_at}
 use Rattle.machine.specs.Places.{no_live, at_place}
 use Rattle.machine.specs.Live.{Live, idle, arrive, arrive_all}
 use Rattle.machine.specs.Inside.Legal.{table_of, Legal, LegalAll}

@@ -22,9 +22,9 @@ use Rattle.machine.proofs.FullArrivals.{full, arrived, handlers-full}
 use Rattle.machine.proofs.Invariant.{arrive-table, idle-table}
 use Rattle.machine.proofs.Least.{sync-clock, sync-beating}
 use Rattle.machine.proofs.No.{callable-same, ran-callable, idle-callable}
-use Rattle.machine.proofs.Room.{callable, callable-le-called, share_in, share-out}
+use Rattle.machine.proofs.Room.{callable-le-called, share_in, share-out}
 use Rattle.machine.proofs.Sync.{serve-by-ran, serve-ran, ran-table}
-use Rattle.machine.proofs.Priority.Above.{fixed, above_owed, above_future, above_called, fixed-above, ran-above-future, above-le-called}
+use Rattle.machine.proofs.Priority.Above.{fixed, above_owed, above_called, fixed-above, ran-above-future, above-le-called}
 use Rattle.machine.proofs.Priority.FullAbove.{ran-above, above-full, above_same, above-called-zero, idle-above-future, at-full, arrive-some, arrive_none, idle-place, late-place}
 use Rattle.machine.proofs.Priority.Kept.{pressing}
 use Rattle.machine.proofs.Priority.Place.{at_row, own, table-length, fixed-at}

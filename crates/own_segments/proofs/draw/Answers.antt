@@ -1,10 +1,7 @@
 use mathlib.Core.Path.{refl}
 use native.Mathlib.Omega.{arith}
-use Prim.Native.Nat.{◌-◌}
-use lib.ListN.{length}
-use Rattle.own_segments.proofs.Walks.{Walked, walked_start, onward, walked-turning}
+use Rattle.own_segments.proofs.Walks.{walked_start, onward, walked-turning}
 use Rattle.own_segments.proofs.Walks.{walked_end, walked-next-by, walked-fits}
-use borrow.Author.Rules.{rules}
 use Rattle.own_segments.proofs.draw.Goals as goal
 
 pub loop-clock-init : goal.loop-clock-init

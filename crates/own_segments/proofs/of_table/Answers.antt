@@ -1,6 +1,5 @@
 use native.Mathlib.Omega.{arith}
 use Rattle.own_segments.proofs.Promise.{says-refused, says-started, says-many, says-segments}
-use borrow.Author.Rules.{rules}
 use Rattle.own_segments.proofs.of_table.Goals as goal
 
 pub returns-then-number-gt0 : goal.returns-then-number-gt0

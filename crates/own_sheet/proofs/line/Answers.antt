@@ -1,6 +1,4 @@
-use Prim.Native.Nat.{ℕ}
 use Rattle.own_sheet.proofs.Lines.{line-written, first-written}
-use borrow.Author.Rules.{rules}
 use Rattle.own_sheet.proofs.line.Goals as goal
 
 pub returns : goal.returns

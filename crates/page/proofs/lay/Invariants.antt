@@ -1,10 +1,7 @@
-use mathlib.Core.Path.{◌≡◌, refl, sym, ap, ◌∙◌}
-use native.Mathlib.Omega.{arith}
-use borrow.Author.Rules.{rules}
-use Prim.Native.Nat.{ℕ, ◌+◌, ◌-◌, ◌≤◌}
+use mathlib.Core.Path.{◌≡◌}
+use Prim.Native.Nat.{◌+◌, ◌-◌, ◌≤◌}
 use lib.ListN.{length}
-use lib.Seq.{paste, paste-zero, length-paste}
-use Rattle.page.proofs.Laid.{end-room, laid-room, past-page, too_long, lay-turn}
+use lib.Seq.{paste}
 use Rattle.page.proofs.lay.Given as goal
 
 -- So many bytes are laid, and there is room for all.

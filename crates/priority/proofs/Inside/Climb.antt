@@ -14,7 +14,7 @@ use Rattle.demand.specs.Tests.{pick}
 use Rattle.demand.proofs.Demands.{called-mono}
 use Rattle.demand.proofs.Divide.{ceil-mono}
 use Rattle.demand.proofs.Inside.Sizes.{called-most}
-use Rattle.priority.specs.Inside.Climb.{Below, Climbing}
+use Rattle.priority.specs.Inside.Climb.{Climbing}
 use Rattle.priority.specs.Inside.Ranks.{rank, work, claimed, Fewer}
 use Rattle.priority.proofs.Inside.Ranks.{work-more, work-le-called}
 use Rattle.priority.proofs.Response.{below-climbs}

@@ -6,8 +6,8 @@ use mathlib.Core.Path.{◌≡◌, refl, sym, ap, ◌∙◌}
 use native.Mathlib.Nat.{zero-add}
 use native.Mathlib.Numerals.{add-one}
 use native.Mathlib.Omega.{arith}
-use borrow.Author.Tests.{ltb-true, ltb-false, eqb-true, eqb-false, lt-ltb, le-ltb, eq-eqb, ne_eqb}
-use Prim.Native.Nat.{ℕ, zero, suc, ◌+◌, ◌*◌, ◌≤◌, ◌<◌, min}
+use borrow.Author.Tests.{ltb-true, ltb-false, eqb-true, eqb-false, lt-ltb, le-ltb}
+use Prim.Native.Nat.{ℕ, suc, ◌+◌, ◌*◌, ◌≤◌, ◌<◌}
 use lib.Dec.{ltb, eqb}
 use lib.ListN.{length}
 use Rattle.demand.specs.Demands.{called_by, called}
@@ -18,7 +18,7 @@ use Rattle.demand.specs.Tests.{pick}
 use Rattle.demand.specs.declared.table.Kind.{Kind}
 use Rattle.demand.proofs.Divide.{le-or-lt}
 use Rattle.demand.proofs.Inside.Slices.{rows_short, from, from-width}
-use Rattle.priority.specs.Asked.{above, asked_from, asked}
+use Rattle.priority.specs.Asked.{asked_from, asked}
 use Rattle.priority.specs.Inside.Ranks.{rank, rank_at, past_ranks, work_by, work, claimed, lesser_from, next_rank, Fewer}
 
 -- ---- a row and those above it are those of a rank up to its own

@@ -3,24 +3,23 @@
 use mathlib.Core.Bool.{Bool, true, false}
 use mathlib.Core.List.{List, [], ◌∷◌}
 use mathlib.Core.Logic.{◌⊎◌, inl, inr}
-use mathlib.Core.Path.{◌≡◌, refl, sym, ap, subst, ◌∙◌}
+use mathlib.Core.Path.{◌≡◌, refl, sym, ap, ◌∙◌}
 use native.Mathlib.Nat.{zero-add}
-use native.Mathlib.Numerals.{add-one}
 use native.Mathlib.Omega.{arith}
 use borrow.Author.Tests.{ltb-true, ltb-false, lt-ltb, le-ltb}
-use Prim.Native.Nat.{ℕ, zero, suc, ◌+◌, ◌*◌, ◌%◌, ◌≤◌, ◌<◌, min}
+use Prim.Native.Nat.{ℕ, zero, suc, ◌+◌, ◌%◌, ◌≤◌, ◌<◌, min}
 use lib.Dec.{ltb}
 use lib.ListN.{length, get_or, set, replicate, length-set, length-replicate, get_or-replicate, get_or-eq_default}
 use lib.Seq.{ext_get_or, get_or-set_same, get_or-set_other}
-use Rattle.demand.specs.Limits.{figure_most, tasks_most}
+use Rattle.demand.specs.Limits.{tasks_most}
 use Rattle.demand.specs.Refusals.{FairRow, InRange}
-use Rattle.demand.specs.Rows.{Row, row_at, no_row, Each, Sound}
+use Rattle.demand.specs.Rows.{Row, row_at, no_row}
 use Rattle.demand.specs.Tests.{pick}
 use Rattle.demand.proofs.Divide.{le-or-lt}
 use Rattle.demand.proofs.Inside.Places.{each_at}
 use Rattle.priority.specs.Asked.{asked}
 use Rattle.priority.specs.Inside.Climb.{Below, Climbed, found, Searched}
-use Rattle.priority.specs.Inside.Ranks.{rank, rank_at, past_ranks, claimed, lesser_from, next_rank, Fewer}
+use Rattle.priority.specs.Inside.Ranks.{rank, rank_at, past_ranks, claimed, lesser_from, next_rank}
 use Rattle.priority.specs.Responses.{least_to, response, listed_from, listed, leasts}
 use Rattle.priority.proofs.Inside.Climb.{claimed-more}
 use Rattle.priority.proofs.Inside.Ranks.{asked-claimed}

@@ -1,5 +1,4 @@
 use mathlib.Core.Path.{refl, sym, ◌∙◌}
-use borrow.Author.Rules.{rules}
 use Rattle.priority.specs.Answers.{no_lengths}
 use Rattle.priority.proofs.Answers.{found-says, refused_says}
 use Rattle.priority.proofs.responses.Goals as goal

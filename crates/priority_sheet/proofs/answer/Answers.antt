@@ -1,5 +1,4 @@
 use Rattle.priority_sheet.proofs.Whole.{placed, misplaced-thirteen, refused-own}
-use borrow.Author.Rules.{rules}
 use Rattle.priority_sheet.proofs.answer.Goals as goal
 
 pub returns-then-misplaced : goal.returns-then-misplaced

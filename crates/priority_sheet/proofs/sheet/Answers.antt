@@ -1,10 +1,8 @@
-use borrow.Author.Tests.{not-true, not-false}
 use Rattle.demand.specs.Rows.{tasks_of, handlers_of}
 use Rattle.layout.proofs.Table.{listed, read-counted}
 use Rattle.priority.specs.Responses.{leasts}
 use Rattle.priority_sheet.proofs.Profiles.{found-few}
 use Rattle.priority_sheet.proofs.Whole.{broken-page, table-page}
-use borrow.Author.Rules.{rules}
 use Rattle.priority_sheet.proofs.sheet.Goals as goal
 
 pub returns-then-not-ok : goal.returns-then-not-ok

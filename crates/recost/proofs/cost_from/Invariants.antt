@@ -1,10 +1,7 @@
-use mathlib.Core.Path.{◌≡◌, refl, sym, ap, ◌∙◌}
-use native.Mathlib.Omega.{arith}
-use borrow.Author.Rules.{rules}
-use Prim.Native.Nat.{ℕ, ◌+◌, ◌-◌, ◌≤◌}
+use mathlib.Core.Path.{◌≡◌}
+use Prim.Native.Nat.{◌+◌, ◌-◌, ◌≤◌}
 use lib.ListN.{length, drop}
 use Rattle.recost.specs.Inside.Scan.{cost_from}
-use Rattle.recost.proofs.Scan.{scan-stops, scan-goes, scan-ends}
 use Rattle.recost.proofs.cost_from.Given as goal
 
 -- What is still to be looked through says what the whole does.

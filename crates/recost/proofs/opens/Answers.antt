@@ -3,7 +3,6 @@ use native.Mathlib.Nat.{add-zero}
 use Prim.Native.Nat.{ℕ, ◌+◌}
 use lib.ListN.{get_or, drop}
 use lib.Seq.{get_or-drop}
-use borrow.Author.Rules.{rules}
 use Rattle.recost.proofs.opens.Goals as goal
 
 pub returns : goal.returns

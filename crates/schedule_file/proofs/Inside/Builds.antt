@@ -1,22 +1,21 @@
 -- The segments that the reader builds are those of the rows read whole.
 use mathlib.Core.Bool.{Bool, true, false}
 use mathlib.Core.List.{List, [], ◌∷◌, ◌++◌, append-nil, append_assoc}
-use mathlib.Core.Logic.{◌⊎◌, inl, inr}
 use mathlib.Core.Path.{◌≡◌, refl, sym, ap, subst, ◌∙◌}
 use native.Mathlib.Numerals.{add-one}
 use native.Mathlib.Omega.{arith}
-use Prim.Native.Nat.{ℕ, suc, ◌+◌, ◌-◌, ◌*◌, ◌<◌, ◌≤◌, min}
+use Prim.Native.Nat.{ℕ, suc, ◌+◌, ◌-◌, ◌*◌, ◌<◌, ◌≤◌}
 use borrow.Author.Tests.{lt-ltb, le-ltb}
 use lib.ListN.{length, set, take, get_or, replicate, length-append}
 use lib.Seq.{set_at, take-suc, take_all}
 use Rattle.demand.specs.Tests.{pick}
 use Rattle.demand.specs.declared.table.Kind.{Kind}
 use Rattle.schedule_file.specs.File.{Entry, entry}
-use Rattle.schedule_file.specs.Inside.Building.{done, added, Reading, reading, next, read_from}
-use Rattle.schedule_file.specs.Inside.Building.{read_over, Outcome, none, some, few, few_of, rows_at_end}
+use Rattle.schedule_file.specs.Inside.Building.{added, Reading, reading, next, read_from}
+use Rattle.schedule_file.specs.Inside.Building.{read_over, none, some, few, few_of, rows_at_end}
 use Rattle.schedule_file.specs.Inside.Built.{count_most, Built, Grows, schedule_for}
 use Rattle.schedule_file.specs.Inside.Steps.{after_byte, is_start}
-use Rattle.schedule_file.specs.Schedule.{kind_number, entry_numbers, numbers_of, numbers_most, filled, schedule_of, broken_schedule}
+use Rattle.schedule_file.specs.Schedule.{kind_number, entry_numbers, numbers_of, numbers_most, filled, broken_schedule}
 use Rattle.schedule_file.specs.declared.reader.Schedule.{Schedule}
 use Rattle.schedule_file.specs.declared.steps.State.{State}
 use Rattle.schedule_file.specs.declared.steps.State.TheVariants.{Head}

@@ -22,7 +22,7 @@ use Rattle.schedule_file.specs.declared.steps.Place.TheVariants.{Row, From, To}
 use Rattle.schedule_file.specs.declared.steps.State.{State}
 use Rattle.schedule_file.specs.declared.steps.State.TheVariants.{Broken, Head, HeadCr, Start, First, Digits, RowCr}
 use Rattle.text.specs.Ascii.{crlf}
-use Rattle.text.specs.Numbers.{is_digit, continues, decimal, comma, field}
+use Rattle.text.specs.Numbers.{is_digit, continues, decimal}
 use Rattle.text.proofs.Numbers.{digit-true, continues-true, continues-below, decimal_digit, decimal-digits}
 use Rattle.text.proofs.Tests.{by}
 

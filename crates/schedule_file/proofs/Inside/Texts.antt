@@ -18,7 +18,7 @@ use Rattle.schedule_file.specs.declared.steps.Place.TheVariants.{Row, From, To}
 use Rattle.schedule_file.specs.declared.steps.State.{State}
 use Rattle.schedule_file.specs.declared.steps.State.TheVariants.{Head, Start, First, Digits}
 use Rattle.text.specs.Ascii.{crlf}
-use Rattle.text.specs.Numbers.{last_digits, decimal, comma, field}
+use Rattle.text.specs.Numbers.{last_digits, decimal, field}
 use Rattle.text.proofs.Numbers.{few, many, digit-is, continues-is}
 use Rattle.text.proofs.Tests.{by-lt}
 

@@ -1,7 +1,5 @@
 use mathlib.Core.Path.{refl}
-use borrow.Author.Tests.{not-true, not-false}
 use Rattle.schedule_sheet.proofs.Whole.{placed-answer, misplaced-thirteen, misplaced-own}
-use borrow.Author.Rules.{rules}
 use Rattle.schedule_sheet.proofs.answer.Goals as goal
 
 pub returns-then-not-misplaced : goal.returns-then-not-misplaced

@@ -1,7 +1,5 @@
-use borrow.Author.Tests.{not-true, not-false}
 use Rattle.layout.proofs.Table.{read-counted}
 use Rattle.schedule_sheet.proofs.Whole.{broken-judged, table-judged}
-use borrow.Author.Rules.{rules}
 use Rattle.schedule_sheet.proofs.judged.Goals as goal
 
 pub returns-then-not-ok : goal.returns-then-not-ok

@@ -1,7 +1,5 @@
-use borrow.Author.Tests.{not-true, not-false}
 use Rattle.schedule_file.proofs.Read.{read-lent}
 use Rattle.schedule_sheet.proofs.Whole.{schedule-torn, schedule-read}
-use borrow.Author.Rules.{rules}
 use Rattle.schedule_sheet.proofs.of_schedule.Goals as goal
 
 pub returns-then-not-ok : goal.returns-then-not-ok

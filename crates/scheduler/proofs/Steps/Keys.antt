@@ -1,15 +1,14 @@
 -- Who is chosen goes by the keys of the tasks alone.
 use mathlib.Core.List.{List}
-use mathlib.Core.Path.{◌≡◌, refl, ap, ap₂, ◌∙◌}
+use mathlib.Core.Path.{◌≡◌, refl, ap, ap₂}
 use native.Mathlib.Numerals.{add-one}
 use native.Mathlib.Omega.{arith}
 use borrow.Author.Tests.{lt-ltb}
 use Prim.Native.Nat.{ℕ, zero, suc, ◌+◌, ◌≤◌, ◌<◌}
-use lib.ListN.{length, get_or, set, replicate, length-replicate}
+use lib.ListN.{get_or, set, replicate, length-replicate}
 use Rattle.demand.specs.Limits.{tasks_most}
 use Rattle.demand.specs.Rows.{row_at, tasks_of}
 use Rattle.scheduler.specs.Inside.Keys.{key_of, keys_on, periods_of}
-use Rattle.scheduler.specs.Runs.{row_in}
 use Rattle.scheduler.specs.Scans.{at, first_of, filled}
 use Rattle.scheduler.specs.Tick.{better, earliest, owed_at, to_task, goes_to, key_with}
 use Rattle.scheduler.specs.declared.Ran.TheVariants as ran

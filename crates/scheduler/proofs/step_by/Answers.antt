@@ -1,5 +1,4 @@
 use mathlib.Core.Path.{sym, ◌∙◌}
-use borrow.Author.Rules.{rules}
 use Rattle.scheduler.proofs.Promise.{step-says}
 use Rattle.scheduler.proofs.Steps.Answers.{step-ticks, step-refused}
 use Rattle.scheduler.proofs.step_by.Goals as goal

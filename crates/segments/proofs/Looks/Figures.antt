@@ -14,7 +14,7 @@ use Rattle.demand.specs.declared.table.Kind.TheVariants.{Task, Handler}
 use Rattle.demand.proofs.Divide.{jobs, ceil-le, jobs-mul-le, jobs-above}
 use Rattle.demand.proofs.Inside.Places.{rows_drop}
 use Rattle.demand.proofs.Inside.Slices.{rows-count, from_is}
-use Rattle.segments.specs.Inside.{cond, wait_tick, late_clock, due_after, lapse_at, lapse_tick, heavy_lapse, lapse_of, run_of, Looked}
+use Rattle.segments.specs.Inside.{cond, wait_tick, due_after, lapse_at, lapse_tick, heavy_lapse, lapse_of, run_of, Looked}
 
 -- ---- the row at a place
 

@@ -2,23 +2,22 @@
 use mathlib.Core.Bool.{Bool, true, false}
 use mathlib.Core.List.{List, [], ◌∷◌}
 use mathlib.Core.Logic.{◌⊎◌, inl, inr}
-use mathlib.Core.Path.{◌≡◌, refl, sym, ap, ap₂, ◌∙◌}
-use native.Mathlib.Nat.{zero-add, add-zero}
+use mathlib.Core.Path.{◌≡◌, refl, sym, ap, ◌∙◌}
 use native.Mathlib.Numerals.{add-one}
 use native.Mathlib.Omega.{arith}
 use borrow.Author.Tests.{le-ltb, lt-ltb, eqb-true, eqb-false}
-use lib.Dec.{eqb, ltb}
+use lib.Dec.{eqb}
 use lib.ListN.{length, drop}
-use Prim.Native.Nat.{ℕ, zero, suc, ◌+◌, ◌-◌, ◌*◌, ◌≤◌, ◌<◌, min, max}
-use Rattle.demand.specs.Limits.{tasks_most, handlers_most}
+use Prim.Native.Nat.{ℕ, zero, suc, ◌+◌, ◌≤◌, ◌<◌, min, max}
+use Rattle.demand.specs.Limits.{tasks_most}
 use Rattle.demand.specs.Refusals.{FairRow}
 use Rattle.demand.specs.Rows.{Row, row_at, Each, Sound, Valid}
 use Rattle.demand.specs.Tests.{pick}
 use Rattle.demand.proofs.Divide.{le-or-lt}
 use Rattle.demand.proofs.Inside.Places.{each_at}
-use Rattle.segments.specs.Given.{Who, nobody, task, handler, same, to_task}
-use Rattle.segments.specs.Inside.{cond, wait_tick, late_clock, wait_of, lapse_of, rest_of}
-use Rattle.segments.specs.Inside.{run_of, waits_of, lates_of, ticks_of, places_most, who_at}
+use Rattle.segments.specs.Given.{same, to_task}
+use Rattle.segments.specs.Inside.{cond, wait_tick, late_clock, wait_of, rest_of}
+use Rattle.segments.specs.Inside.{run_of, waits_of, lates_of, places_most, who_at}
 use Rattle.segments.proofs.Looks.Figures.{cond-none, cond-some}
 
 -- The rows from place j on: the row there, and those behind it.

@@ -10,11 +10,11 @@ use lib.Dec.{leb, ltb}
 use Prim.Native.Nat.{ℕ, zero, suc, ◌+◌, ◌-◌, ◌≤◌, ◌<◌, min}
 use Rattle.demand.specs.Limits.{tasks_most}
 use Rattle.demand.specs.Rows.{Row, row_at}
-use Rattle.segments.specs.Given.{Who, nobody, task, handler}
+use Rattle.segments.specs.Given.{nobody, task, handler}
 use Rattle.segments.specs.Inside.{cond, lapse_of, waits_of, lates_of, ticks_of}
 use Rattle.segments.specs.Inside.{places_most, who_at, given_at, handler_given, broken_at, piece_broken}
 use Rattle.segments.specs.Inside.{Outcome, broken, cond_o, after}
-use Rattle.segments.proofs.Looks.Figures.{cond-none, cond-some}
+use Rattle.segments.proofs.Looks.Figures.{cond-none}
 
 -- ---- who stands at a place
 

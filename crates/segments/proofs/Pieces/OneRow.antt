@@ -6,7 +6,7 @@ use mathlib.Core.Path.{◌≡◌}
 use native.Mathlib.Nat.{mul-suc, mul_comm, mul-sub, mul-le-mul_left}
 use native.Mathlib.Nat.{mul-le-mul_right, le-div_iff_mul-le, div-lt_iff_lt-mul, lt-div-mul-add, div-mul-le_self}
 use native.Mathlib.Omega.{arith}
-use Prim.Native.Nat.{ℕ, suc, ◌+◌, ◌-◌, ◌*◌, ◌/◌, ◌≤◌, ◌<◌, max}
+use Prim.Native.Nat.{ℕ, suc, ◌+◌, ◌-◌, ◌*◌, ◌/◌, ◌≤◌, ◌<◌}
 use Rattle.demand.specs.Demands.{ceil}
 use Rattle.demand.proofs.Divide.{jobs, le-or-lt, ceil-mono, le-ceil-mul}
 use Rattle.segments.specs.Inside.{due_after, lapse_at, lapse_tick}

@@ -6,19 +6,19 @@
 use mathlib.Core.Bool.{Bool, true, false}
 use mathlib.Core.List.{List, [], ◌∷◌}
 use mathlib.Core.Logic.{◌⊎◌, inl, inr}
-use mathlib.Core.Path.{◌≡◌, refl, sym, ap, ap₂, subst, ◌∙◌}
+use mathlib.Core.Path.{◌≡◌, refl, ap₂, subst}
 use native.Mathlib.Nat.{mul-zero, mul-suc, mul-mod_left, div-eq_of_lt-le, div-mul-le_self, add-zero}
 use native.Mathlib.Omega.{arith}
 use borrow.Author.Tests.{eq-eqb, ne_eqb}
 use lib.Dec.{eqb}
 use Prim.Native.Nat.{ℕ, zero, suc, ◌+◌, ◌-◌, ◌*◌, ◌%◌, ◌≤◌, ◌<◌}
 use Rattle.demand.specs.Demands.{ceil}
-use Rattle.demand.specs.Rows.{Row, row_at, Positive, Valid}
+use Rattle.demand.specs.Rows.{Row, row_at, Positive}
 use Rattle.demand.specs.Tests.{pick}
 use Rattle.demand.proofs.Divide.{le-or-lt, ceil-zero, le-ceil-mul}
 use Rattle.machine.specs.Live.{Live, idle, arrive, arrive_all, owed_all, OnTime}
 use Rattle.machine.specs.Machine.{share}
-use Rattle.machine.specs.Schedules.{beat, beats, RanOne, ran-none, ran-here, ran-later}
+use Rattle.machine.specs.Schedules.{beats, RanOne, ran-here, ran-later}
 use Rattle.machine.proofs.Beats.{between}
 use Rattle.segments.specs.Given.{same, work_by}
 

@@ -1,7 +1,6 @@
 -- Segments of a lent list, read as the code reads them, and what their order says.
 use mathlib.Core.Bool.{Bool, true, false, ◌||◌}
 use mathlib.Core.List.{List, [], ◌∷◌}
-use mathlib.Core.Logic.{◌⊎◌, inl, inr}
 use mathlib.Core.Path.{◌≡◌, refl, sym, ap, ◌∙◌}
 use native.Mathlib.Nat.{add-zero}
 use native.Mathlib.Omega.{arith}
@@ -9,9 +8,9 @@ use borrow.Author.Tests.{ltb-false, leb-false}
 use lib.Dec.{leb, ltb}
 use lib.ListN.{length, get_or, drop, length-drop}
 use lib.Seq.{get_or-drop, drop-drop}
-use Prim.Native.Nat.{ℕ, zero, suc, ◌+◌, ◌-◌, ◌≤◌, ◌<◌}
+use Prim.Native.Nat.{ℕ, zero, suc, ◌+◌, ◌≤◌, ◌<◌}
 use Rattle.demand.proofs.Refusals.{neither}
-use Rattle.segments.specs.Given.{Who, nobody, task, handler}
+use Rattle.segments.specs.Given.{nobody}
 use Rattle.demand.specs.Limits.{tasks_most}
 use Rattle.segments.specs.Inside.{place_of}
 use Rattle.segments.specs.Promise.{unknown, misplaced, disordered}

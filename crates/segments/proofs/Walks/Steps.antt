@@ -11,15 +11,14 @@ use Prim.Native.Nat.{ℕ, zero, suc, ◌+◌, ◌-◌, ◌%◌, ◌≤◌, ◌<�
 use Rattle.demand.specs.Limits.{tasks_most, handlers_most, ticks_most}
 use Rattle.demand.specs.Refusals.{InRange}
 use Rattle.demand.specs.Rows.{Row, tasks_of, handlers_of}
-use Rattle.segments.specs.Given.{Who, nobody, task, handler, task_ticks, handler_ticks}
+use Rattle.segments.specs.Given.{Who, nobody, handler, task_ticks, handler_ticks}
 use Rattle.segments.specs.Inside.{cond, Outcome, fine, broken, piece_then, judge}
-use Rattle.segments.specs.Inside.{places_most, who_at, place_of, given_at, piece_broken, segment_broken}
+use Rattle.segments.specs.Inside.{places_most, who_at, place_of, piece_broken, segment_broken}
 use Rattle.segments.specs.Inside.{Ready, Counted, Walked}
-use Rattle.segments.specs.Promise.{unknown, disordered, judge_refusal}
+use Rattle.segments.specs.Promise.{unknown, disordered}
 use Rattle.segments.specs.Segments.{Seg, who_of, segment_width, segments_of, InOrder, at, Agrees}
 use Rattle.segments.proofs.Walks.Carried.{piece-same, counted-gap, counted-segment}
 use Rattle.segments.proofs.Pieces.Counts.{Steady}
-use Rattle.segments.proofs.Says.{Ends}
 use Rattle.segments.proofs.Walks.Lent.{Fits, ordered-cons, ordered-in, segments-short}
 use Rattle.segments.proofs.Looks.Figures.{cond-none, cond-some}
 use Rattle.segments.proofs.Pieces.Order.{gap-steady, seg-steady, rest-agrees}

@@ -1,9 +1,9 @@
 -- What a turn of the walk needs and leaves, of the segment that the code holds.
 use mathlib.Core.List.{List, ◌∷◌}
-use mathlib.Core.Path.{◌≡◌, refl, sym, ap, subst, ◌∙◌}
+use mathlib.Core.Path.{◌≡◌, refl, sym, ap, ◌∙◌}
 use native.Mathlib.Omega.{arith}
 use lib.ListN.{length, get_or, set, drop}
-use Prim.Native.Nat.{ℕ, zero, suc, ◌+◌, ◌-◌, ◌≤◌, ◌<◌}
+use Prim.Native.Nat.{ℕ, suc, ◌+◌, ◌-◌, ◌≤◌, ◌<◌}
 use Rattle.demand.specs.Limits.{tasks_most, ticks_most}
 use Rattle.demand.specs.Refusals.{InRange}
 use Rattle.demand.specs.Rows.{tasks_of, handlers_of}

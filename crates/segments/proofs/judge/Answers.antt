@@ -1,6 +1,5 @@
 use native.Mathlib.Omega.{arith}
 use Rattle.segments.proofs.Answers.{says-refused}
-use borrow.Author.Rules.{rules}
 use Rattle.segments.proofs.judge.Goals as goal
 
 pub returns-then-number-gt0 : goal.returns-then-number-gt0

@@ -1,7 +1,4 @@
 use native.Mathlib.Omega.{arith}
-use lib.ListN.{length}
-use Prim.Native.Nat.{◌-◌}
-use Rattle.segments.specs.Inside.{Walked}
 use Rattle.segments.proofs.Refusals.{answered}
 use Rattle.segments.proofs.Walks.Turns.{start, end-ready, end-says-broken, end-says-accepted, row-few}
 use Rattle.segments.proofs.Walks.Turns.{place_in, turn-ready, turn-grows, turn-says-broken, turn-goes}

@@ -1,6 +1,5 @@
 use mathlib.Core.Path.{sym, ap}
 use Rattle.segments.specs.Promise.{figures, answer_numbers}
-use borrow.Author.Rules.{rules}
 use Rattle.segments.proofs.numbers.Goals as goal
 
 pub returns-in-Accepted : goal.returns-in-Accepted

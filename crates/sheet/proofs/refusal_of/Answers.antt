@@ -1,5 +1,4 @@
 use Rattle.verdict.specs.Promise.{figures}
-use borrow.Author.Rules.{rules}
 use Rattle.sheet.proofs.refusal_of.Goals as goal
 
 pub returns-in-Fits : goal.returns-in-Fits

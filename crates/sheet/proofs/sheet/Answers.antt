@@ -1,7 +1,5 @@
-use borrow.Author.Tests.{not-true, not-false}
 use Rattle.sheet.proofs.Whole.{broken-sheet, table-sheet}
 use Rattle.layout.proofs.Table.{read-counted}
-use borrow.Author.Rules.{rules}
 use Rattle.sheet.proofs.sheet.Goals as goal
 
 pub returns-then-not-ok : goal.returns-then-not-ok

@@ -1,4 +1,3 @@
-use borrow.Author.Rules.{rules}
 use Rattle.sheet.proofs.written.Goals as goal
 
 pub returns : goal.returns

@@ -3,7 +3,7 @@ use native.Mathlib.Omega.{arith}
 use Rattle.text.specs.Text.{put_of}
 use Rattle.text.specs.declared.Text.{Text}
 use Rattle.text.proofs.Writes.{puts-digit, puts-digits}
-use Prim.Native.Nat.{ℕ, ◌+◌, ◌%◌, ◌<◌}
+use Prim.Native.Nat.{◌+◌, ◌%◌}
 use Rattle.text.proofs.+number.Goals as goal
 
 pub put-requires : goal.put-requires

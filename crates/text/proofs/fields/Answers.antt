@@ -1,9 +1,8 @@
 use mathlib.Core.List.{List}
-use mathlib.Core.Path.{◌≡◌, ap, ◌∙◌}
+use mathlib.Core.Path.{ap, ◌∙◌}
 use native.Mathlib.Omega.{arith}
-use Prim.Native.Nat.{ℕ, ◌-◌, ◌≤◌}
-use borrow.Author.Rules.{rules}
-use lib.ListN.{length, take, get_or}
+use Prim.Native.Nat.{ℕ}
+use lib.ListN.{get_or}
 use lib.Seq.{take_all}
 use Rattle.text.specs.Numbers.{decimal, comma, fields_of}
 use Rattle.text.specs.Text.{put_of, puts_of}

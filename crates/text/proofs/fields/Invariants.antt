@@ -1,14 +1,8 @@
-use mathlib.Core.List.{List}
-use mathlib.Core.Path.{◌≡◌, ap, ◌∙◌}
-use native.Mathlib.Omega.{arith}
-use Prim.Native.Nat.{ℕ, ◌-◌, ◌≤◌}
-use borrow.Author.Rules.{rules}
-use lib.ListN.{length, take, get_or}
-use lib.Seq.{take_all}
-use Rattle.text.specs.Numbers.{decimal, comma, fields_of}
-use Rattle.text.specs.Text.{put_of, puts_of}
-use Rattle.text.specs.declared.Text.{Text}
-use Rattle.text.proofs.Writes.{puts_none, fields-take}
+use mathlib.Core.Path.{◌≡◌}
+use Prim.Native.Nat.{◌-◌, ◌≤◌}
+use lib.ListN.{length, take}
+use Rattle.text.specs.Numbers.{fields_of}
+use Rattle.text.specs.Text.{puts_of}
 use Rattle.text.proofs.fields.Given as goal
 
 abbrev pub invariant-loop-i : goal.invariant-loop-i

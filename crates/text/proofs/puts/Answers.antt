@@ -1,8 +1,6 @@
-use mathlib.Core.Path.{◌≡◌, ap, ◌∙◌}
+use mathlib.Core.Path.{ap, ◌∙◌}
 use native.Mathlib.Omega.{arith}
-use Prim.Native.Nat.{◌-◌, ◌≤◌}
-use borrow.Author.Rules.{rules}
-use lib.ListN.{length, take, get_or}
+use lib.ListN.{get_or}
 use lib.Seq.{take_all}
 use Rattle.text.specs.Text.{put_of, puts_of}
 use Rattle.text.specs.declared.Text.{Text}

@@ -1,12 +1,7 @@
-use mathlib.Core.Path.{◌≡◌, ap, ◌∙◌}
-use native.Mathlib.Omega.{arith}
+use mathlib.Core.Path.{◌≡◌}
 use Prim.Native.Nat.{◌-◌, ◌≤◌}
-use borrow.Author.Rules.{rules}
-use lib.ListN.{length, take, get_or}
-use lib.Seq.{take_all}
-use Rattle.text.specs.Text.{put_of, puts_of}
-use Rattle.text.specs.declared.Text.{Text}
-use Rattle.text.proofs.Writes.{puts_none, puts-take}
+use lib.ListN.{length, take}
+use Rattle.text.specs.Text.{puts_of}
 use Rattle.text.proofs.puts.Given as goal
 
 abbrev pub invariant-loop-i : goal.invariant-loop-i

@@ -1,6 +1,5 @@
 use Rattle.text.specs.English.{english}
 use Rattle.text.proofs.Writes.{text-fits}
-use borrow.Author.Rules.{rules}
 use Rattle.text_cases.proofs.say.Goals as goal
 
 pub print-requires : goal.print-requires

@@ -1,6 +1,5 @@
 use mathlib.Core.Path.{sym, ap}
 use Rattle.trim.specs.Promise.{figures, answer_numbers}
-use borrow.Author.Rules.{rules}
 use Rattle.trim.proofs.numbers.Goals as goal
 
 pub returns-in-Cost : goal.returns-in-Cost

@@ -1,8 +1,6 @@
 use native.Mathlib.Omega.{arith}
-use borrow.Author.Tests.{not-true, not-false}
 use Rattle.trim.proofs.Answers.{row-placed, says-18, says-kept, says_none, can-search, says-found}
 use Rattle.trim.proofs.Lowered.{told-fits, told-misses}
-use borrow.Author.Rules.{rules}
 use Rattle.trim.proofs.of_readable.Goals as goal
 
 pub returns-then-count-row : goal.returns-then-count-row

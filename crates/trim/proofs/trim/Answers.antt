@@ -1,6 +1,5 @@
 use Rattle.trim.proofs.Answers.{says-refused}
 use Rattle.trim.proofs.Lowered.{judged-fits, judged-misses}
-use borrow.Author.Rules.{rules}
 use Rattle.trim.proofs.trim.Goals as goal
 
 pub of_readable-requires : goal.of_readable-requires

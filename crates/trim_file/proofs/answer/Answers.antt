@@ -1,6 +1,4 @@
 use mathlib.Core.Path.{refl}
-use borrow.Author.Rules.{rules}
-use borrow.Author.Tests.{not-true, not-false}
 use Rattle.trim_file.proofs.Whole.{placed-answer, misplaced-thirteen, misplaced-own}
 use Rattle.trim_file.proofs.answer.Goals as goal
 

@@ -1,7 +1,6 @@
 use mathlib.Core.List.{List, []}
 use mathlib.Core.Path.{ap, ◌∙◌}
 use native.Mathlib.Omega.{arith}
-use borrow.Author.Rules.{rules}
 use Prim.Native.Nat.{ℕ}
 use Rattle.trim_file.specs.Printed.{none_lines}
 use Rattle.trim_file.specs.Whole.{output_of}

@@ -1,5 +1,4 @@
-use mathlib.Core.Path.{◌≡◌, sym, ap, ◌∙◌, subst}
-use borrow.Author.Rules.{rules}
+use mathlib.Core.Path.{sym, ap, ◌∙◌, subst}
 use Rattle.trim.specs.declared.Answer.{Answer}
 use Rattle.trim_file.specs.Inside.{CanWrite, output_by}
 use Rattle.trim_file.proofs.of_answer.Goals as goal

@@ -1,5 +1,3 @@
-use borrow.Author.Rules.{rules}
-use borrow.Author.Tests.{not-true, not-false}
 use Rattle.layout.proofs.Table.{read-counted}
 use Rattle.trim_file.specs.Inside.{output_by}
 use Rattle.trim_file.proofs.Whole.{broken-written, read-writes, read-written}

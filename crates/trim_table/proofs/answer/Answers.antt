@@ -1,4 +1,3 @@
-use borrow.Author.Rules.{rules}
 use Rattle.trim_file.proofs.Pages.{trimmed-lent}
 use Rattle.trim_table.proofs.answer.Goals as goal
 

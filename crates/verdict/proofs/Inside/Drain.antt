@@ -5,7 +5,7 @@ use mathlib.Core.Path.{◌≡◌, refl, ◌∙◌}
 use native.Mathlib.Omega.{arith}
 use Prim.Native.Nat.{ℕ, ◌+◌, ◌≤◌, ◌<◌}
 use lib.ListN.{length}
-use Rattle.walk.specs.Queue.{Entry, to_come, CanTakeTo, Taken}
+use Rattle.walk.specs.Queue.{Entry, CanTakeTo, Taken}
 use Rattle.walk.proofs.Queue.{come-none, come-mono}
 use Rattle.demand.specs.Inside.Events.{Begun}
 use Rattle.demand.specs.Inside.Sizes.{due_most, Small}

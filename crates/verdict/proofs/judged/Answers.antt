@@ -3,7 +3,6 @@ use native.Mathlib.Omega.{arith}
 use Rattle.demand.proofs.Inside.Sizes.{small-less}
 use Rattle.verdict.proofs.Readable.{readable-in-range, readable-table, common-small}
 use Rattle.verdict.proofs.Sayings.{load_read, end_read, looks-read, whole-most, bound-fits, end_fits, says-fits, says-misses}
-use borrow.Author.Rules.{rules}
 use Rattle.verdict.proofs.judged.Goals as goal
 
 pub work-requires : goal.work-requires

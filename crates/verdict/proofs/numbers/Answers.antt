@@ -1,6 +1,5 @@
 use mathlib.Core.Path.{sym, ap}
 use Rattle.verdict.specs.Promise.{figures, answer_numbers}
-use borrow.Author.Rules.{rules}
 use Rattle.verdict.proofs.numbers.Goals as goal
 
 pub returns-in-Fits : goal.returns-in-Fits

@@ -1,7 +1,6 @@
 use native.Mathlib.Nat.{pos_of_ne-zero}
 use native.Mathlib.Omega.{arith}
 use Rattle.verdict.proofs.Sayings.{says-refused, says-refused-4, says-readable}
-use borrow.Author.Rules.{rules}
 use Rattle.verdict.proofs.verdict.Goals as goal
 
 pub returns-then-number-gt0 : goal.returns-then-number-gt0

@@ -6,7 +6,7 @@
 --   CanClimb a b s n, Climbed a b s n c d w   from s, asked for so far, one may climb to n and has come to w: the idle point, if below n
 --   Looking ts hs a b s a search has come so far with the arrivals a and b to come and s asked for
 use Rattle.std.specs.Prelude.{List, ◌≡◌, ℕ, ◌+◌, ◌^◌, ◌≤◌, ◌<◌, length}
-use Rattle.walk.specs.Queue.{Entry, to_come, Ahead, Queue}
+use Rattle.walk.specs.Queue.{Entry, to_come, Queue}
 use Rattle.demand.specs.Limits.{ticks_most}
 use Rattle.demand.specs.Rows.{Row}
 use Rattle.verdict.specs.Idle.{asks}

@@ -1,8 +1,5 @@
-use mathlib.Core.Path.{◌≡◌, sym}
+use mathlib.Core.Path.{sym}
 use native.Mathlib.Omega.{arith}
-use borrow.Author.Rules.{rules}
-use Prim.Native.Nat.{◌≤◌, ◌-◌}
-use Rattle.advance.specs.Inside.Alone.{first_due}
 use Rattle.advance.proofs.Firsts.{first-zero, first-turn, first-end}
 use Rattle.advance.proofs.alone.first_due.Goals as goal
 

@@ -1,9 +1,6 @@
-use mathlib.Core.Path.{◌≡◌, sym}
-use native.Mathlib.Omega.{arith}
-use borrow.Author.Rules.{rules}
+use mathlib.Core.Path.{◌≡◌}
 use Prim.Native.Nat.{◌≤◌, ◌-◌}
 use Rattle.advance.specs.Inside.Alone.{first_due}
-use Rattle.advance.proofs.Firsts.{first-zero, first-turn, first-end}
 use Rattle.advance.proofs.alone.first_due.Given as goal
 
 abbrev pub invariant-loop-k : goal.invariant-loop-k

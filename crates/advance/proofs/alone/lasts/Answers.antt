@@ -1,5 +1,4 @@
 use native.Mathlib.Omega.{arith}
-use borrow.Author.Rules.{rules}
 use Rattle.advance.proofs.alone.lasts.Goals as goal
 
 pub returns-then-first-clock : goal.returns-then-first-clock

@@ -3,7 +3,6 @@ use native.Mathlib.Omega.{arith}
 use Rattle.advance.specs.Inside.Alone.{paid_by}
 use Rattle.scheduler.specs.declared.Ran.{Ran}
 use Rattle.advance.proofs.Paid.{handler-pays-by, task-pays-by}
-use borrow.Author.Rules.{rules}
 use Rattle.advance.proofs.alone.pay_by.Goals as goal
 
 pub overflow_add-k : goal.overflow_add-k

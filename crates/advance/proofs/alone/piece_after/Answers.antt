@@ -1,7 +1,6 @@
 use native.Mathlib.Omega.{arith}
 use Rattle.advance.proofs.Pieces.{lasts-made, made-pays, made-few, made_none, made_some}
 use Rattle.scheduler.proofs.Steps.Clauses.{clauses, clauses-fit}
-use borrow.Author.Rules.{rules}
 use Rattle.advance.proofs.alone.piece_after.Goals as goal
 
 pub work_of-work-requires : goal.work_of-work-requires

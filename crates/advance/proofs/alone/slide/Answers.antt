@@ -1,5 +1,4 @@
 use Rattle.advance.specs.Inside.Alone.{slid}
-use borrow.Author.Rules.{rules}
 use Rattle.advance.proofs.alone.slide.Goals as goal
 
 pub returns : goal.returns

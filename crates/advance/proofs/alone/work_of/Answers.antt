@@ -2,7 +2,6 @@ use mathlib.Core.Path.{sym, ap}
 use native.Mathlib.Omega.{arith}
 use Rattle.advance.specs.Inside.Alone.{work_of}
 use Rattle.advance.proofs.Paid.{handler-placed, task-placed}
-use borrow.Author.Rules.{rules}
 use Rattle.advance.proofs.alone.work_of.Goals as goal
 
 pub overflow_add-result : goal.overflow_add-result

@@ -1,7 +1,6 @@
 use mathlib.Core.Path.{ap, ◌∙◌}
 use Rattle.advance.proofs.Quietly.{zeros-take, zeros-take-length, quiet-near}
 use Rattle.scheduler.specs.Steps.{step_of}
-use borrow.Author.Rules.{rules}
 use Rattle.advance.proofs.quiet.step.Goals as goal
 
 pub slice_bounds-step-end : goal.slice_bounds-step-end

@@ -1,7 +1,6 @@
 use mathlib.Core.Path.{sym, ap, ◌∙◌}
 use Rattle.charge_lines.specs.Counts.{counted}
 use Rattle.charges.specs.declared.figures.Word.{Word}
-use borrow.Author.Rules.{rules}
 use Rattle.charge_lines.proofs.counts.add.Goals as goal
 
 pub returns-in-Fits : goal.returns-in-Fits

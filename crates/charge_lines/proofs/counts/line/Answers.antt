@@ -1,5 +1,4 @@
 use Rattle.charge_lines.proofs.Written.{count-written}
-use borrow.Author.Rules.{rules}
 use Rattle.charge_lines.proofs.counts.line.Goals as goal
 
 pub returns : goal.returns

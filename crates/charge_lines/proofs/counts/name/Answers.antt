@@ -5,7 +5,6 @@ use Rattle.text.specs.Text.{text_of}
 use Rattle.text.specs.Ascii.{ascii}
 use Rattle.text.proofs.Writes.{puts-blank}
 use native.Mathlib.Omega.{arith}
-use borrow.Author.Rules.{rules}
 use Rattle.charge_lines.proofs.counts.name.Goals as goal
 
 pub returns-in-Exact : goal.returns-in-Exact

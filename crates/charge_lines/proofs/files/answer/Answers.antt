@@ -1,7 +1,5 @@
 use mathlib.Core.Path.{refl}
-use borrow.Author.Tests.{not-true, not-false}
 use Rattle.charge_lines.proofs.Charged.{placed-answer, misplaced-thirteen, misplaced-own}
-use borrow.Author.Rules.{rules}
 use Rattle.charge_lines.proofs.files.answer.Goals as goal
 
 pub returns-then-not-misplaced : goal.returns-then-not-misplaced

@@ -1,7 +1,5 @@
-use borrow.Author.Tests.{not-true, not-false}
 use Rattle.layout.proofs.Table.{read-counted}
 use Rattle.charge_lines.proofs.Charged.{charged-nineteen, charged-broken, charged-read}
-use borrow.Author.Rules.{rules}
 use Rattle.charge_lines.proofs.files.of_file.Goals as goal
 
 pub returns-then-quantum : goal.returns-then-quantum

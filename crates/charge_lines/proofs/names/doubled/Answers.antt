@@ -1,14 +1,9 @@
-use mathlib.Core.Path.{◌≡◌, refl, sym, ap, ◌∙◌}
+use mathlib.Core.Path.{ap, ◌∙◌}
 use native.Mathlib.Omega.{arith}
-use native.Mathlib.Nat.{add-zero}
-use lib.ListN.{length, take, get_or}
-use lib.Seq.{take_all}
-use Prim.Native.Nat.{ℕ, ◌+◌, ◌-◌, ◌≤◌}
+use lib.ListN.{length, take}
 use Rattle.charge_lines.specs.Line.{doubled}
 use Rattle.charge_lines.proofs.Quoting.{turn-room, turn_end, turn-page, doubled-start, doubled-done, doubled-room}
-use Rattle.page.specs.Laid.{laid}
 use Rattle.page.proofs.Laid.{laid-length}
-use borrow.Author.Rules.{rules}
 use Rattle.charge_lines.proofs.names.doubled.Goals as goal
 
 pub loop-i-init : goal.loop-i-init

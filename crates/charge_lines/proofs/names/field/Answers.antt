@@ -1,7 +1,5 @@
 use mathlib.Core.Path.{sym, ◌∙◌}
-use borrow.Author.Tests.{not-true, not-false}
 use Rattle.charge_lines.proofs.Quoting.{bare-laid, quoted-room, quoted-laid}
-use borrow.Author.Rules.{rules}
 use Rattle.charge_lines.proofs.names.field.Goals as goal
 
 pub returns-then-not-some_special : goal.returns-then-not-some_special

@@ -1,12 +1,9 @@
 use lib.Seq.{length-take-le}
-use mathlib.Core.Path.{◌≡◌, refl, sym, ap, ◌∙◌}
+use mathlib.Core.Path.{sym}
 use native.Mathlib.Omega.{arith}
-use lib.ListN.{length, take}
-use mathlib.Core.List.{List, [], ◌∷◌}
-use Prim.Native.Nat.{ℕ, ◌+◌}
-use Rattle.charge_lines.specs.Line.{double, quotes}
-use Rattle.charge_lines.proofs.Quoting.{quotes-most, pair-double, double-length, put-laid}
-use borrow.Author.Rules.{rules}
+use mathlib.Core.List.{[], ◌∷◌}
+use Prim.Native.Nat.{◌+◌}
+use Rattle.charge_lines.proofs.Quoting.{quotes-most, put-laid}
 use Rattle.charge_lines.proofs.names.put.Goals as goal
 
 pub overflow_add-n : goal.overflow_add-n

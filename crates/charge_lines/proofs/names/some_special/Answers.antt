@@ -1,9 +1,8 @@
-use borrow.Author.Rules.{rules}
-use mathlib.Core.Path.{◌≡◌, refl, sym, ap, ◌∙◌}
+use mathlib.Core.Path.{refl, sym, ap, ◌∙◌}
 use native.Mathlib.Numerals.{add-one}
 use native.Mathlib.Omega.{arith}
-use lib.ListN.{length, drop, get_or}
-use Prim.Native.Nat.{ℕ, suc, ◌-◌, ◌≤◌}
+use lib.ListN.{drop}
+use Prim.Native.Nat.{ℕ, suc}
 use mathlib.Core.Bool.{Bool, ◌||◌}
 use Rattle.charge_lines.specs.Line.{special, some}
 use Rattle.charge_lines.proofs.Quoting.{some_at, some-past}

@@ -1,12 +1,7 @@
-use borrow.Author.Rules.{rules}
-use mathlib.Core.Path.{◌≡◌, refl, sym, ap, ◌∙◌}
-use native.Mathlib.Numerals.{add-one}
-use native.Mathlib.Omega.{arith}
-use lib.ListN.{length, drop, get_or}
-use Prim.Native.Nat.{ℕ, suc, ◌-◌, ◌≤◌}
-use mathlib.Core.Bool.{Bool, ◌||◌}
+use mathlib.Core.Path.{◌≡◌}
+use lib.ListN.{length, drop}
+use Prim.Native.Nat.{◌-◌, ◌≤◌}
 use Rattle.charge_lines.specs.Line.{special, some}
-use Rattle.charge_lines.proofs.Quoting.{some_at, some-past}
 use Rattle.charge_lines.proofs.names.some_special.Given as goal
 
 abbrev pub invariant-loop-i : goal.invariant-loop-i

@@ -3,7 +3,6 @@ use Rattle.charge_lines.specs.Line.{word_field}
 use Rattle.charge_lines.proofs.Written.{tail_written}
 use Rattle.text.specs.Text.{puts_of}
 use Rattle.text.specs.declared.Text.{Text}
-use borrow.Author.Rules.{rules}
 use Rattle.charge_lines.proofs.tails.of_figures.Goals as goal
 
 pub returns : goal.returns

@@ -1,5 +1,4 @@
 use Rattle.charge_lines.proofs.Written.{part-written}
-use borrow.Author.Rules.{rules}
 use Rattle.charge_lines.proofs.tails.part.Goals as goal
 
 pub returns : goal.returns

@@ -2,7 +2,6 @@ use mathlib.Core.Path.{sym, ap, ◌∙◌}
 use Rattle.charge_lines.specs.Line.{word_field}
 use Rattle.charges.specs.declared.figures.Word.{Word}
 use Rattle.text.specs.Text.{puts_of}
-use borrow.Author.Rules.{rules}
 use Rattle.charge_lines.proofs.tails.word.Goals as goal
 
 pub returns-in-Fits : goal.returns-in-Fits

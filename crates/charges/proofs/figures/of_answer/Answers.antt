@@ -1,6 +1,5 @@
 use mathlib.Core.Path.{sym, ap, ◌∙◌}
 use Rattle.charges.specs.Figures.{figures}
-use borrow.Author.Rules.{rules}
 use Rattle.charges.proofs.figures.of_answer.Goals as goal
 
 pub returns-in-Charged : goal.returns-in-Charged

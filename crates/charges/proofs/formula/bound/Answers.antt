@@ -1,6 +1,5 @@
 use native.Mathlib.Omega.{arith}
 use native.Mathlib.Nat.{mul-le-mul, div-le_self}
-use borrow.Author.Rules.{rules}
 use Rattle.charges.proofs.formula.bound.Goals as goal
 
 pub overflow_mul-result : goal.overflow_mul-result

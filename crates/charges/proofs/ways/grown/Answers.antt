@@ -1,8 +1,7 @@
 use native.Mathlib.Omega.{arith}
-use Rattle.charges.proofs.Growth.{quantum-usable, quantum-read, task-read, task-cost-most}
+use Rattle.charges.proofs.Growth.{quantum-usable, quantum-read, task-read}
 use Rattle.charges.proofs.Bounded.{bounds-most}
 use Rattle.demand.specs.Rows.{row_of, handlers_of}
-use borrow.Author.Rules.{rules}
 use Rattle.charges.proofs.ways.grown.Goals as goal
 
 pub in_quanta-requires : goal.in_quanta-requires

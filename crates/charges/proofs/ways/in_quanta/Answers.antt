@@ -1,6 +1,5 @@
 use native.Mathlib.Omega.{arith}
 use Rattle.charges.proofs.Growth.{quanta-most}
-use borrow.Author.Rules.{rules}
 use Rattle.charges.proofs.ways.in_quanta.Goals as goal
 
 pub overflow_mul-result : goal.overflow_mul-result

@@ -6,7 +6,6 @@ use Rattle.demand.proofs.Inside.Sizes.{fair-positive}
 use Rattle.charges.specs.Inside.{way_cost}
 use Rattle.charges.proofs.Totals.{periods-total, rest-total}
 use Rattle.charges.proofs.WholePeriods.{common-found, load_split}
-use borrow.Author.Rules.{rules}
 use Rattle.charges.proofs.ways.load.Goals as goal
 
 pub of_rows-h-requires : goal.of_rows-h-requires

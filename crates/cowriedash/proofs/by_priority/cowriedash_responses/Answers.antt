@@ -1,6 +1,5 @@
 use mathlib.Core.Path.{refl}
 use Rattle.priority.specs.Answers.{figures}
-use borrow.Author.Rules.{rules}
 use Rattle.cowriedash.proofs.by_priority.cowriedash_responses.Goals as goal
 
 pub returns : goal.returns

@@ -1,6 +1,5 @@
 use mathlib.Core.Path.{ap, ◌∙◌}
 use Rattle.charges.specs.Figures.{numbers_of}
-use borrow.Author.Rules.{rules}
 use Rattle.cowriedash.proofs.charged.cowriedash_charges.Goals as goal
 
 pub returns : goal.returns

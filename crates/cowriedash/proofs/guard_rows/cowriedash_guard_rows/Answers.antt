@@ -1,4 +1,3 @@
-use borrow.Author.Rules.{rules}
 use Rattle.cowriedash.proofs.guard_rows.cowriedash_guard_rows.Goals as goal
 
 pub returns : goal.returns

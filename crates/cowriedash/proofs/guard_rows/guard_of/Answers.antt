@@ -1,5 +1,4 @@
 use mathlib.Core.Path.{refl}
-use borrow.Author.Rules.{rules}
 use Rattle.cowriedash.proofs.guard_rows.guard_of.Goals as goal
 
 pub returns-then-bursty : goal.returns-then-bursty

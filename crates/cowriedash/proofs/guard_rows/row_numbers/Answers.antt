@@ -1,6 +1,5 @@
 use mathlib.Core.Path.{sym, ap}
 use Rattle.cowriedash.specs.GuardRows.{row_numbers}
-use borrow.Author.Rules.{rules}
 use Rattle.cowriedash.proofs.guard_rows.row_numbers.Goals as goal
 
 pub returns-in-Rows : goal.returns-in-Rows

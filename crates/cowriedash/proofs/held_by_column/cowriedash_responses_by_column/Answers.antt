@@ -1,6 +1,5 @@
 use mathlib.Core.Path.{refl}
 use Rattle.priority.specs.Answers.{figures}
-use borrow.Author.Rules.{rules}
 use Rattle.cowriedash.proofs.held_by_column.cowriedash_responses_by_column.Goals as goal
 
 pub returns : goal.returns

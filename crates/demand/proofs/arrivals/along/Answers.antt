@@ -1,10 +1,6 @@
-use mathlib.Core.Path.{◌≡◌, refl, sym, ◌∙◌}
+use mathlib.Core.Path.{refl, sym, ◌∙◌}
 use native.Mathlib.Omega.{arith}
-use Prim.Native.Nat.{ℕ, ◌+◌, ◌-◌}
-use lib.ListN.{length}
-use Rattle.walk.specs.Queue.{head, next, to_come}
 use Rattle.walk.proofs.Queue.{head-ahead}
-use Rattle.demand.specs.Inside.Arrivals.{Follows, Level}
 use Rattle.demand.proofs.Inside.Arrivals.{come-least, come-can, come-level, come-follows, come-later, come-over}
 use Rattle.demand.proofs.arrivals.along.Goals as goal
 

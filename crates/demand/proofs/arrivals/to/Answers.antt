@@ -1,6 +1,5 @@
 use Rattle.walk.proofs.Queue.{ahead-nil}
 use Rattle.demand.proofs.Inside.Arrivals.{come-waited}
-use borrow.Author.Rules.{rules}
 use Rattle.demand.proofs.arrivals.to.Goals as goal
 
 pub returns-then-q-eq0 : goal.returns-then-q-eq0

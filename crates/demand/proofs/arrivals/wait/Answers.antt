@@ -1,4 +1,3 @@
-use borrow.Author.Rules.{rules}
 use Rattle.demand.proofs.arrivals.wait.Goals as goal
 
 pub returns : goal.returns

@@ -1,8 +1,6 @@
 use native.Mathlib.Omega.{arith}
-use Prim.Native.Nat.{◌-◌}
-use lib.ListN.{length}
 use Rattle.demand.specs.Rows.{row_of}
-use Rattle.demand.proofs.Inside.Events.{Beginning, begin-start, begin-can, begin-turn, begin-end}
+use Rattle.demand.proofs.Inside.Events.{begin-start, begin-can, begin-turn, begin-end}
 use Rattle.demand.proofs.Inside.Slices.{width-least, width-most, from-length}
 use Rattle.demand.proofs.events.begin.Goals as goal
 

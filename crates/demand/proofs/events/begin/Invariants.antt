@@ -1,9 +1,6 @@
-use native.Mathlib.Omega.{arith}
 use Prim.Native.Nat.{◌-◌}
 use lib.ListN.{length}
-use Rattle.demand.specs.Rows.{row_of}
-use Rattle.demand.proofs.Inside.Events.{Beginning, begin-start, begin-can, begin-turn, begin-end}
-use Rattle.demand.proofs.Inside.Slices.{width-least, width-most, from-length}
+use Rattle.demand.proofs.Inside.Events.{Beginning}
 use Rattle.demand.proofs.events.begin.Given as goal
 
 abbrev pub invariant-loop-i : goal.invariant-loop-i

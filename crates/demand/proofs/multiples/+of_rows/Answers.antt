@@ -1,12 +1,9 @@
 use mathlib.Core.Path.{refl}
-use lib.ListN.{length}
 use native.Mathlib.Omega.{arith}
 use Rattle.demand.specs.Refusals.{FairRow}
 use Rattle.demand.proofs.Inside.Slices.{part-shorter, each-head}
 use Rattle.euclid.proofs.Divisors.{gcd-positive, lcm-positive}
 use Rattle.demand.proofs.Periods.{lcm-short, lcm-over, lcm-head, lcm-read, lcm-fits}
-use Prim.Native.Nat.{ℕ, ◌<◌}
-use Rattle.demand.proofs.multiples.+of_rows.{statement}
 use Rattle.demand.proofs.multiples.+of_rows.Goals as goal
 
 pub width-own-requires : goal.width-own-requires

@@ -1,4 +1,3 @@
-use borrow.Author.Rules.{rules}
 use Rattle.demand.proofs.refusal.miscounted.Goals as goal
 
 pub returns : goal.returns

@@ -1,7 +1,6 @@
 use mathlib.Core.Path.{sym, ◌∙◌}
 use native.Mathlib.Nat.{pos_of_ne-zero}
 use Rattle.demand.proofs.Refusals.{asked-zero, asked-5, asked-table}
-use borrow.Author.Rules.{rules}
 use Rattle.demand.proofs.refusal.of_question.Goals as goal
 
 pub returns-then-l-gt-TICKS_MOST : goal.returns-then-l-gt-TICKS_MOST

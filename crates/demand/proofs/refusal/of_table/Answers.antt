@@ -1,6 +1,5 @@
 use Rattle.demand.specs.Refusals.{table_tests, table_refusal}
 use Rattle.demand.proofs.Chains.{first-at, first-none}
-use borrow.Author.Rules.{rules}
 use Rattle.demand.proofs.refusal.of_table.Goals as goal
 
 pub returns-then-uneven : goal.returns-then-uneven

@@ -1,6 +1,5 @@
 use native.Mathlib.Omega.{arith}
 use Rattle.demand.proofs.Inside.Slices.{width-least}
-use borrow.Author.Rules.{rules}
 use Rattle.demand.proofs.refusal.uneven.Goals as goal
 
 pub nonzero_rem-result : goal.nonzero_rem-result

@@ -2,7 +2,6 @@ use native.Mathlib.Nat.{div-le_self}
 use native.Mathlib.Omega.{arith}
 use borrow.Author.Tests.{le-ltb, lt-ltb}
 use Prim.Native.Nat.{◌-◌}
-use borrow.Author.Rules.{rules}
 use Rattle.demand.proofs.rows.jobs.Goals as goal
 
 pub overflow_add-result : goal.overflow_add-result

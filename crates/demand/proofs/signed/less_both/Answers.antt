@@ -2,7 +2,6 @@ use mathlib.Core.Path.{◌∙◌}
 use mir.Syntax.{w64}
 use mir.ValLaws.{to_z-of_z}
 use Rattle.demand.proofs.Signs.{first_fits, both-fits, both_is}
-use borrow.Author.Rules.{rules}
 use Rattle.demand.proofs.signed.less_both.Goals as goal
 
 pub overflow_sub-result : goal.overflow_sub-result

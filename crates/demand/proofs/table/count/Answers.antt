@@ -1,7 +1,6 @@
 use mathlib.Core.Path.{sym}
 use native.Mathlib.Omega.{arith}
 use Rattle.demand.proofs.Inside.Slices.{width-least, rows-count}
-use borrow.Author.Rules.{rules}
 use Rattle.demand.proofs.table.count.Goals as goal
 
 pub nonzero_div-result : goal.nonzero_div-result

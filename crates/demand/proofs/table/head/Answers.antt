@@ -3,7 +3,6 @@ use lib.ListN.{get_or}
 use Prim.Native.Nat.{ℕ, ◌-◌}
 use native.Mathlib.Omega.{arith}
 use Rattle.demand.proofs.Inside.Slices.{width-least, head_read}
-use borrow.Author.Rules.{rules}
 use Rattle.demand.proofs.table.head.Goals as goal
 
 pub overflow_sub-last : goal.overflow_sub-last

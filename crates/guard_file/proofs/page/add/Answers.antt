@@ -1,5 +1,5 @@
 use native.Mathlib.Omega.{arith}
-use Prim.Native.Nat.{◌+◌, ◌-◌, ◌≤◌}
+use Prim.Native.Nat.{◌+◌}
 use lib.ListN.{take, get_or, set}
 use Rattle.guard_file.specs.Page.{laid}
 use Rattle.guard_file.proofs.Laid.{laid_next}

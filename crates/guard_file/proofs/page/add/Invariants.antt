@@ -1,11 +1,7 @@
-use native.Mathlib.Omega.{arith}
-use Prim.Native.Nat.{◌+◌, ◌-◌, ◌≤◌}
-use lib.ListN.{take, get_or, set}
+use Prim.Native.Nat.{◌-◌, ◌≤◌}
+use lib.ListN.{take}
 use Rattle.guard_file.specs.Page.{laid}
-use Rattle.guard_file.proofs.Laid.{laid_next}
-use mathlib.Core.List.{List}
-use mathlib.Core.Path.{◌≡◌, refl, ap, ◌∙◌}
-use Prim.Native.Nat.{ℕ}
+use mathlib.Core.Path.{◌≡◌}
 use Rattle.guard_file.proofs.page.add.Given as goal
 
 abbrev pub invariant-loop-i : goal.invariant-loop-i

@@ -3,7 +3,7 @@ use Rattle.guard_file.proofs.Laid.{text-room, text-laid}
 use Rattle.guard_file.specs.Page.{laid}
 use Rattle.guard_file.specs.Inside.Pages.{guard_lines_by, lines_up_to}
 use lib.ListN.{length, get_or}
-use Prim.Native.Nat.{ℕ, ◌+◌, ◌-◌, ◌*◌, ◌≤◌}
+use Prim.Native.Nat.{ℕ, ◌+◌, ◌*◌}
 use native.Mathlib.Omega.{arith}
 use mathlib.Core.Path.{◌≡◌, refl, ap, ◌∙◌}
 use Rattle.guard_file.proofs.page.all_lines.Goals as goal

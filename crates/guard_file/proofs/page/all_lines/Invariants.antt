@@ -1,11 +1,8 @@
-use Rattle.guard_file.proofs.Printed.{guard-lines-most, lines-most, lines_next}
-use Rattle.guard_file.proofs.Laid.{text-room, text-laid}
 use Rattle.guard_file.specs.Page.{laid}
-use Rattle.guard_file.specs.Inside.Pages.{guard_lines_by, lines_up_to}
-use lib.ListN.{length, get_or}
-use Prim.Native.Nat.{ℕ, ◌+◌, ◌-◌, ◌*◌, ◌≤◌}
-use native.Mathlib.Omega.{arith}
-use mathlib.Core.Path.{◌≡◌, refl, ap, ◌∙◌}
+use Rattle.guard_file.specs.Inside.Pages.{lines_up_to}
+use lib.ListN.{length}
+use Prim.Native.Nat.{◌+◌, ◌-◌, ◌≤◌}
+use mathlib.Core.Path.{◌≡◌}
 use Rattle.guard_file.proofs.page.all_lines.Given as goal
 
 abbrev pub invariant-loop-k : goal.invariant-loop-k

@@ -1,5 +1,4 @@
 use Rattle.guard_file.proofs.Printed.{guard-written}
-use borrow.Author.Rules.{rules}
 use Rattle.guard_file.proofs.page.guard_lines.Goals as goal
 
 pub returns : goal.returns

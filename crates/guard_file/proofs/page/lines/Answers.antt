@@ -1,7 +1,5 @@
 use mathlib.Core.Path.{refl}
 use Rattle.guard_file.proofs.Whole.{broken-page, many-page, guard-page, rows-page}
-use borrow.Author.Tests.{not-true, not-false}
-use borrow.Author.Rules.{rules}
 use Rattle.guard_file.proofs.page.lines.Goals as goal
 
 pub returns-then-not-ok : goal.returns-then-not-ok

@@ -3,7 +3,6 @@ use Rattle.guard_file.proofs.Printed.{refused-most}
 use Rattle.guard_file.proofs.Laid.{text-room}
 use Rattle.guard_file.specs.Page.{refused_text}
 use native.Mathlib.Omega.{arith}
-use borrow.Author.Rules.{rules}
 use Rattle.guard_file.proofs.page.refuse.Goals as goal
 
 pub add-requires : goal.add-requires

@@ -1,5 +1,4 @@
 use Rattle.guard_file.proofs.Printed.{refused-written}
-use borrow.Author.Rules.{rules}
 use Rattle.guard_file.proofs.page.refused.Goals as goal
 
 pub returns : goal.returns

@@ -4,7 +4,6 @@ use Rattle.guard_file.proofs.Laid.{text-room}
 use Rattle.guard_file.specs.Page.{rows_heading}
 use Rattle.guard_file.specs.Inside.Pages.{lines_up_to}
 use native.Mathlib.Omega.{arith}
-use borrow.Author.Rules.{rules}
 use Rattle.guard_file.proofs.page.rows.Goals as goal
 
 pub add-at-requires : goal.add-at-requires

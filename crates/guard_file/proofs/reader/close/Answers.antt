@@ -1,6 +1,5 @@
 use Rattle.guard_file.proofs.Inside.Builds.{at-end-short, at-end-full, at-end-broken}
 use mathlib.Core.Path.{sym, ◌∙◌}
-use borrow.Author.Rules.{rules}
 use Rattle.guard_file.proofs.reader.close.Goals as goal
 
 pub returns-then-is_start : goal.returns-then-is_start

@@ -7,8 +7,7 @@ use Rattle.guard_file.specs.Inside.Building.{done}
 use borrow.Author.Tests.{eq-eqb, ne_eqb}
 use Prim.Native.Nat.{ℕ}
 use mathlib.Core.Path.{◌≡◌, refl}
-use mathlib.Core.List.{List, [], ◌∷◌}
-use borrow.Author.Rules.{rules}
+use mathlib.Core.List.{List, []}
 use Rattle.guard_file.proofs.reader.feed.Goals as goal
 
 -- No state but RowCr has a guard done.

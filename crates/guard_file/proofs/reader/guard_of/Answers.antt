@@ -1,4 +1,3 @@
-use borrow.Author.Rules.{rules}
 use Rattle.guard_file.proofs.reader.guard_of.Goals as goal
 
 pub returns-in-Single : goal.returns-in-Single

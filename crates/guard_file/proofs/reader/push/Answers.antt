@@ -1,6 +1,5 @@
 use borrow.Author.Tests.{lt-ltb, le-ltb}
 use mathlib.Core.Path.{sym, ◌∙◌}
-use borrow.Author.Rules.{rules}
 use Rattle.guard_file.proofs.reader.push.Goals as goal
 
 pub returns-then-k-ge-GUARDS_MOST : goal.returns-then-k-ge-GUARDS_MOST

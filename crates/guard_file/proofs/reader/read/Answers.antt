@@ -1,11 +1,6 @@
-use borrow.Author.Rules.{rules}
 use Rattle.guard_file.proofs.Inside.Builds.{loop-state, loop-values, loop-sheet, loop-ends, over-long}
-use Rattle.guard_file.specs.Inside.Building.{sheet_of, read_over}
-use Rattle.guard_file.specs.File.{file_most}
-use lib.ListN.{length, take}
-use Prim.Native.Nat.{◌-◌, ◌≤◌}
 use native.Mathlib.Omega.{arith}
-use mathlib.Core.Path.{◌≡◌, refl, ◌∙◌}
+use mathlib.Core.Path.{refl, ◌∙◌}
 use Rattle.guard_file.proofs.reader.read.Goals as goal
 
 pub returns-then-bytes-gt-FILE_MOST : goal.returns-then-bytes-gt-FILE_MOST

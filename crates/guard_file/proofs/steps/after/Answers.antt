@@ -1,5 +1,4 @@
 use borrow.Author.Tests.{lt-ltb, le-ltb}
-use borrow.Author.Rules.{rules}
 use Rattle.guard_file.proofs.steps.after.Goals as goal
 
 pub returns-then-j-lt-LAST : goal.returns-then-j-lt-LAST

@@ -1,6 +1,5 @@
 use borrow.Author.Tests.{eq-eqb, ne_eqb}
 use mathlib.Core.Path.{sym, ◌∙◌}
-use borrow.Author.Rules.{rules}
 use Rattle.guard_file.proofs.steps.in_digits.Goals as goal
 
 pub extended-requires : goal.extended-requires

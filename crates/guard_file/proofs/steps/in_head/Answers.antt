@@ -1,6 +1,5 @@
 use borrow.Author.Tests.{lt-ltb, le-ltb, eq-eqb, ne_eqb}
 use mathlib.Core.Path.{◌∙◌}
-use borrow.Author.Rules.{rules}
 use Rattle.guard_file.proofs.steps.in_head.Goals as goal
 
 pub returns-then-b-header_byte : goal.returns-then-b-header_byte

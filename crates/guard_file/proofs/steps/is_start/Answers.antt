@@ -2,9 +2,7 @@ use Rattle.guard_file.specs.declared.steps.State.TheVariants.{Broken, Head, Head
 use Rattle.guard_file.specs.declared.steps.State.{State}
 use Rattle.guard_file.specs.Inside.Steps.{is_start}
 use mathlib.Core.Path.{◌≡◌, refl, sym}
-use mathlib.Core.List.{[], ◌∷◌}
 use mathlib.Core.Bool.{false}
-use borrow.Author.Rules.{rules}
 use Rattle.guard_file.proofs.steps.is_start.Goals as goal
 
 -- Every other state is none.

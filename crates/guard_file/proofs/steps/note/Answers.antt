@@ -5,8 +5,7 @@ use Rattle.guard_file.specs.Inside.Steps.{noted}
 use borrow.Author.Tests.{lt-ltb, le-ltb}
 use Prim.Native.Nat.{ℕ}
 use mathlib.Core.Path.{◌≡◌, refl, sym}
-use mathlib.Core.List.{List, [], ◌∷◌}
-use borrow.Author.Rules.{rules}
+use mathlib.Core.List.{List}
 use Rattle.guard_file.proofs.steps.note.Goals as goal
 
 -- At no other state is there a number to be noted.

@@ -1,7 +1,6 @@
 use Rattle.guard_file.specs.File.{header}
 use lib.ListN.{get_or-eq_default}
 use mathlib.Core.Path.{sym}
-use borrow.Author.Rules.{rules}
 use Rattle.guard_file.proofs.words.header_byte.Goals as goal
 
 pub returns-else-k-lt-HEADER_LEN : goal.returns-else-k-lt-HEADER_LEN

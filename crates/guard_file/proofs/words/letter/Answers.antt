@@ -2,7 +2,6 @@ use Rattle.guard_file.specs.declared.words.Kind.TheVariants.{Single, Burst}
 use Rattle.guard_file.specs.Inside.Steps.{word_of}
 use lib.ListN.{get_or-eq_default}
 use mathlib.Core.Path.{sym}
-use borrow.Author.Rules.{rules}
 use Rattle.guard_file.proofs.words.letter.Goals as goal
 
 pub returns-then-k-lt-NAME_LEN : goal.returns-then-k-lt-NAME_LEN

@@ -1,7 +1,6 @@
 use mathlib.Core.Path.{sym, ap, subst}
 use native.Mathlib.Omega.{arith}
 use Prim.Native.Nat.{◌≤◌}
-use borrow.Author.Rules.{rules}
 use Rattle.demand.specs.Limits.{tasks_most}
 use Rattle.scheduler.specs.declared.Late.{Late}
 use Rattle.harness.specs.Numbers.{late_number}

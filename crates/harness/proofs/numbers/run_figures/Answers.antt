@@ -1,4 +1,3 @@
-use borrow.Author.Rules.{rules}
 use Rattle.harness.proofs.numbers.run_figures.Goals as goal
 
 pub returns : goal.returns

@@ -1,5 +1,4 @@
 use mathlib.Core.Path.{sym, ap}
-use borrow.Author.Rules.{rules}
 use Rattle.scheduler.specs.Promise.{start_figures}
 use Rattle.harness.proofs.numbers.start_code.Goals as goal
 

@@ -3,7 +3,6 @@ use mathlib.Core.Path.{sym, ap, ◌∙◌}
 use Rattle.demand.specs.Tests.{pick}
 use Rattle.layout.specs.Table.{broken_table}
 use Rattle.layout.proofs.Inside.Builds.{table-at-end-short, table-at-end-full}
-use borrow.Author.Rules.{rules}
 use Rattle.layout.proofs.reader.close.Goals as goal
 
 pub returns-then-is_start : goal.returns-then-is_start

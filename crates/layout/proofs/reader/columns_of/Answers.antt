@@ -1,6 +1,5 @@
 use borrow.Author.Tests.{eq-eqb, ne_eqb}
 use lib.ListN.{get_or-eq_default}
-use borrow.Author.Rules.{rules}
 use Rattle.layout.proofs.reader.columns_of.Goals as goal
 
 pub returns-then-bytes-eq44 : goal.returns-then-bytes-eq44

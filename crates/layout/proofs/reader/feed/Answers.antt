@@ -1,4 +1,4 @@
-use mathlib.Core.List.{[], ◌∷◌}
+use mathlib.Core.List.{[]}
 use mathlib.Core.Path.{◌≡◌, refl}
 use Prim.Native.Nat.{ℕ}
 use Rattle.demand.specs.declared.table.Kind.{Kind}
@@ -7,7 +7,6 @@ use Rattle.layout.specs.declared.steps.State.{State}
 use Rattle.layout.specs.declared.steps.State.TheVariants.{Broken, Head, HeadCr, Start, Name, First, Digits, RowCr}
 use borrow.Author.Tests.{eq-eqb, ne_eqb}
 use Rattle.layout.specs.Inside.Building.{done}
-use borrow.Author.Rules.{rules}
 use Rattle.layout.proofs.reader.feed.Goals as goal
 
 -- No state but RowCr has a row done.

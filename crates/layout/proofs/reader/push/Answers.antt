@@ -1,5 +1,4 @@
 use native.Mathlib.Omega.{arith}
-use borrow.Author.Rules.{rules}
 use Rattle.layout.proofs.reader.push.Goals as goal
 
 pub with_number-requires-in-Task : goal.with_number-requires-in-Task

@@ -1,14 +1,10 @@
-use mathlib.Core.Path.{◌≡◌, refl, ◌∙◌}
-use native.Mathlib.Omega.{arith}
+use mathlib.Core.Path.{◌≡◌}
 use Prim.Native.Nat.{◌-◌, ◌≤◌}
-use borrow.Author.Rules.{rules}
 use lib.ListN.{length, take}
 use Rattle.layout.specs.Inside.Building.{read_over}
 use Rattle.layout.specs.Inside.Steps.{columns_of}
 use Rattle.layout.specs.File.{file_most}
 use Rattle.layout.specs.Table.{table_of}
-use Rattle.layout.proofs.Table.{read-says}
-use Rattle.layout.proofs.Inside.Builds.{loop-room, loop-state, loop-table, loop-ends, over-long}
 use Rattle.layout.proofs.reader.read.Given as goal
 
 abbrev pub invariant-loop-i : goal.invariant-loop-i

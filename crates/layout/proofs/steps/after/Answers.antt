@@ -1,4 +1,3 @@
-use borrow.Author.Rules.{rules}
 use Rattle.layout.proofs.steps.after.Goals as goal
 
 pub returns-in-Cost : goal.returns-in-Cost

@@ -1,4 +1,3 @@
-use borrow.Author.Rules.{rules}
 use Rattle.layout.proofs.steps.after_period.Goals as goal
 
 pub returns-in-Three : goal.returns-in-Three

@@ -1,4 +1,3 @@
-use borrow.Author.Rules.{rules}
 use Rattle.layout.proofs.steps.emptied.Goals as goal
 
 pub returns-in-Deadline : goal.returns-in-Deadline

@@ -1,4 +1,3 @@
-use borrow.Author.Rules.{rules}
 use Rattle.layout.proofs.steps.empty_last.Goals as goal
 
 pub returns-in-Task : goal.returns-in-Task

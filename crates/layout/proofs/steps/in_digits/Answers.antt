@@ -4,7 +4,6 @@ use native.Mathlib.Omega.{arith}
 use Prim.Native.Nat.{◌^◌}
 use Rattle.layout.specs.File.{digits_most}
 use Rattle.text.proofs.Numbers.{continues-below}
-use borrow.Author.Rules.{rules}
 use Rattle.layout.proofs.steps.in_digits.Goals as goal
 
 pub extended-requires : goal.extended-requires

@@ -1,6 +1,5 @@
 use mathlib.Core.Path.{◌∙◌}
 use borrow.Author.Tests.{lt-ltb, le-ltb, eq-eqb, ne_eqb}
-use borrow.Author.Rules.{rules}
 use Rattle.layout.proofs.steps.in_head.Goals as goal
 
 pub returns-then-b-header_byte : goal.returns-then-b-header_byte

@@ -1,6 +1,5 @@
 use mathlib.Core.Path.{◌∙◌}
 use borrow.Author.Tests.{lt-ltb, le-ltb, eq-eqb, ne_eqb}
-use borrow.Author.Rules.{rules}
 use Rattle.layout.proofs.steps.in_name.Goals as goal
 
 pub returns-then-b-letter : goal.returns-then-b-letter

@@ -1,10 +1,8 @@
-use mathlib.Core.List.{[], ◌∷◌}
 use mathlib.Core.Path.{◌≡◌, refl, sym}
 use Rattle.layout.specs.declared.steps.State.{State}
 use Rattle.layout.specs.declared.steps.State.TheVariants.{Broken, Head, HeadCr, Start, Name, First, Digits, RowCr}
 use mathlib.Core.Bool.{false}
 use Rattle.layout.specs.Inside.Steps.{is_start}
-use borrow.Author.Rules.{rules}
 use Rattle.layout.proofs.steps.is_start.Goals as goal
 
 -- Every other state is none.

@@ -1,4 +1,3 @@
-use borrow.Author.Rules.{rules}
 use Rattle.layout.proofs.steps.step.Goals as goal
 
 pub returns-in-Head : goal.returns-in-Head

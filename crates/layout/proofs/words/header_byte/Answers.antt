@@ -2,7 +2,6 @@ use mathlib.Core.Path.{sym}
 use lib.ListN.{get_or-eq_default}
 use Rattle.layout.specs.File.{header_of}
 use Rattle.layout.specs.declared.words.Columns.TheVariants.{Three, Four}
-use borrow.Author.Rules.{rules}
 use Rattle.layout.proofs.words.header_byte.Goals as goal
 
 pub returns-then-k-lt-THREE_LEN : goal.returns-then-k-lt-THREE_LEN

@@ -2,7 +2,6 @@ use mathlib.Core.Path.{sym}
 use lib.ListN.{get_or-eq_default}
 use Rattle.layout.specs.File.{name_of}
 use Rattle.demand.specs.declared.table.Kind.TheVariants.{Task, Handler}
-use borrow.Author.Rules.{rules}
 use Rattle.layout.proofs.words.letter.Goals as goal
 
 pub returns-then-k-lt-TASK_LEN : goal.returns-then-k-lt-TASK_LEN

@@ -1,5 +1,4 @@
 use borrow.Author.Tests.{eq-eqb, ne_eqb}
-use borrow.Author.Rules.{rules}
 use Rattle.own_segments.proofs.arrivals.beat.Goals as goal
 
 pub returns-then-tick-row-eq0 : goal.returns-then-tick-row-eq0

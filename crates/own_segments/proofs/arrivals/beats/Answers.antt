@@ -1,14 +1,10 @@
-use mathlib.Core.Path.{◌≡◌, refl, sym, ap, ◌∙◌}
+use mathlib.Core.Path.{refl, sym, ap, ◌∙◌}
 use native.Mathlib.Omega.{arith}
-use Prim.Native.Nat.{◌-◌, ◌≤◌}
-use Rattle.demand.specs.Rows.{Row, row_at}
-use Rattle.guarantees.specs.Patterns.{rows_in}
+use Rattle.demand.specs.Rows.{Row}
 use Rattle.machine.specs.Schedules.{beat}
 use Rattle.scheduler.proofs.Steps.Scan.{filled_zero, filled-turn}
-use Rattle.scheduler.specs.Scans.{filled}
 use Rattle.own_segments.proofs.Lists.{filled-long}
 use Rattle.own_segments.proofs.Rhythms.{rows_few, rows-fair, beats-taken}
-use borrow.Author.Rules.{rules}
 use Rattle.own_segments.proofs.arrivals.beats.Goals as goal
 
 pub count-all-requires : goal.count-all-requires

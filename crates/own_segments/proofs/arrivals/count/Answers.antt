@@ -2,7 +2,6 @@ use mathlib.Core.Path.{sym, ap₂, ◌∙◌}
 use native.Mathlib.Omega.{arith}
 use Prim.Native.Nat.{◌+◌}
 use Rattle.own_segments.proofs.Rhythms.{rows-length, rows_few}
-use borrow.Author.Rules.{rules}
 use Rattle.own_segments.proofs.arrivals.count.Goals as goal
 
 pub overflow_add-result : goal.overflow_add-result

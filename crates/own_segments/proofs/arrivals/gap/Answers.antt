@@ -1,8 +1,5 @@
 use native.Mathlib.Omega.{arith}
-use Prim.Native.Nat.{◌-◌, ◌≤◌}
-use Rattle.own_segments.specs.Inside.{QuietTo}
 use Rattle.own_segments.proofs.Rhythms.{rows_few, rows-fair, quiet_next, quiet-end}
-use borrow.Author.Rules.{rules}
 use Rattle.own_segments.proofs.arrivals.gap.Goals as goal
 
 pub count-all-requires : goal.count-all-requires

@@ -3,7 +3,6 @@ use Rattle.demand.proofs.Inside.Slices.{from-length}
 use Rattle.scheduler.proofs.Steps.RowPlaces.{numbers_fit, row_read}
 use mathlib.Core.Path.{ap}
 use Prim.Native.Nat.{ℕ, ◌*◌}
-use borrow.Author.Rules.{rules}
 use Rattle.own_segments.proofs.arrivals.row_of.Goals as goal
 
 pub overflow_mul-at : goal.overflow_mul-at

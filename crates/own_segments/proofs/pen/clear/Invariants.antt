@@ -1,11 +1,7 @@
-use mathlib.Core.Path.{◌≡◌, refl, sym}
-use native.Mathlib.Omega.{arith}
+use mathlib.Core.Path.{◌≡◌}
 use Prim.Native.Nat.{◌-◌, ◌≤◌}
 use lib.ListN.{length}
-use Rattle.scheduler.proofs.Steps.Scan.{filled_zero, filled-turn}
 use Rattle.scheduler.specs.Scans.{filled}
-use Rattle.own_segments.proofs.Lists.{cleared, filled-long}
-use borrow.Author.Rules.{rules}
 use Rattle.own_segments.proofs.pen.clear.Given as goal
 
 abbrev pub invariant-loop-k : goal.invariant-loop-k

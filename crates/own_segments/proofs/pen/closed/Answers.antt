@@ -3,7 +3,6 @@ use native.Mathlib.Omega.{arith}
 use Rattle.own_segments.specs.Inside.{count_by, out_by}
 use Rattle.own_segments.proofs.Pens.{room_most}
 use Rattle.scheduler.specs.declared.Ran.{Ran}
-use borrow.Author.Rules.{rules}
 use Rattle.own_segments.proofs.pen.closed.Goals as goal
 
 pub overflow_add-result : goal.overflow_add-result

@@ -1,5 +1,4 @@
 use mathlib.Core.Path.{sym, ◌∙◌}
-use borrow.Author.Rules.{rules}
 use Rattle.own_segments.proofs.pen.moved.Goals as goal
 
 pub returns-then-same : goal.returns-then-same

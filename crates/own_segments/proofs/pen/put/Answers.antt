@@ -4,7 +4,6 @@ use lib.Seq.{lt-length-set}
 use native.Mathlib.Omega.{arith}
 use borrow.Author.Tests.{lt-ltb, le-ltb}
 use Rattle.own_segments.proofs.Pens.{room-numbers, room_most}
-use borrow.Author.Rules.{rules}
 use Rattle.own_segments.proofs.pen.put.Goals as goal
 
 pub overflow_mul-k : goal.overflow_mul-k

@@ -1,6 +1,5 @@
 use mathlib.Core.Path.{sym, ap₂}
 use Rattle.own_segments.specs.Inside.{same_ran}
-use borrow.Author.Rules.{rules}
 use Rattle.own_segments.proofs.pen.same.Goals as goal
 
 pub returns-in-Handler-b : goal.returns-in-Handler-b

@@ -4,7 +4,6 @@ use Prim.Native.Nat.{ℕ}
 use lib.ListN.{take}
 use Rattle.own_segments.proofs.Rhythms.{rows_few}
 use Rattle.own_segments.proofs.Runs.{step-turned, arrivals-length}
-use borrow.Author.Rules.{rules}
 use Rattle.own_segments.proofs.turn.arriving.Goals as goal
 
 pub slice_bounds-ws-end : goal.slice_bounds-ws-end

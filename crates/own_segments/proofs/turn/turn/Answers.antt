@@ -1,5 +1,4 @@
 use Rattle.own_segments.proofs.Runs.{piece-turned}
-use borrow.Author.Rules.{rules}
 use Rattle.own_segments.proofs.turn.turn.Goals as goal
 
 pub returns-else-most-eq0 : goal.returns-else-most-eq0

@@ -1,17 +1,8 @@
-use mathlib.Core.List.{List}
-use mathlib.Core.Path.{◌≡◌, sym, ap, subst}
-use native.Mathlib.Omega.{arith}
-use Prim.Native.Nat.{ℕ, ◌+◌, ◌-◌, ◌%◌, ◌≤◌, ◌<◌}
-use lib.ListN.{length}
-use Rattle.demand.specs.Limits.{figure_most, tasks_most}
-use Rattle.demand.specs.Refusals.{FairRow, InRange}
-use Rattle.demand.specs.Rows.{Row, row_at, tasks_of, handlers_of, Sound}
-use Rattle.demand.proofs.Inside.Places.{each_at}
-use Rattle.demand.proofs.Refusals.{refusal-in-range}
+use Prim.Native.Nat.{◌-◌, ◌<◌}
+use Rattle.demand.specs.Rows.{tasks_of, handlers_of}
 use Rattle.priority.specs.Inside.Climb.{Searched}
-use Rattle.priority.specs.Inside.Ranks.{past_ranks, next_rank}
-use Rattle.priority.proofs.Inside.Climb.{tasks-fewer}
-use Rattle.priority.proofs.Inside.Search.{PlacedAt, next-from, next-at, search-start, search-turn, search-end}
+use Rattle.priority.specs.Inside.Ranks.{past_ranks}
+use Rattle.priority.proofs.Inside.Search.{PlacedAt}
 use Rattle.priority.proofs.climb.all.Given as goal
 
 -- The tasks of a rank below the present one are done, and that is the rank of a task, or past them all.

@@ -1,6 +1,5 @@
-use mathlib.Core.Path.{◌∙◌}
 use native.Mathlib.Omega.{arith}
-use Rattle.demand.specs.Rows.{tasks_of, handlers_of}
+use Rattle.demand.specs.Rows.{handlers_of}
 use Rattle.priority.specs.Inside.Ranks.{claimed}
 use Rattle.priority.proofs.Inside.Climb.{tasks-fewer, handlers-fewer, claimed-most}
 use Rattle.priority.proofs.Inside.Ranks.{work-all}

@@ -1,6 +1,6 @@
 use mathlib.Core.Path.{sym, subst}
 use native.Mathlib.Omega.{arith}
-use Prim.Native.Nat.{ℕ, suc, ◌+◌, ◌-◌}
+use Prim.Native.Nat.{ℕ}
 use Rattle.demand.specs.Rows.{tasks_of, handlers_of}
 use Rattle.priority.specs.Inside.Climb.{Climbing}
 use Rattle.priority.specs.Inside.Ranks.{claimed}

@@ -1,10 +1,7 @@
-use mathlib.Core.Path.{sym, subst}
-use native.Mathlib.Omega.{arith}
-use Prim.Native.Nat.{ℕ, suc, ◌+◌, ◌-◌}
+use Prim.Native.Nat.{suc, ◌-◌}
 use Rattle.demand.specs.Rows.{tasks_of, handlers_of}
 use Rattle.priority.specs.Inside.Climb.{Climbing}
 use Rattle.priority.specs.Inside.Ranks.{claimed}
-use Rattle.priority.proofs.Inside.Climb.{claimed-mono, climb-start, climb-turn}
 use Rattle.priority.proofs.climb.up.Given as goal
 
 abbrev pub invariant-loop-at : goal.invariant-loop-at

@@ -1,11 +1,8 @@
 use mathlib.Core.Path.{sym, ◌∙◌}
 use native.Mathlib.Omega.{arith}
-use lib.ListN.{length}
 use Rattle.demand.specs.declared.table.Kind.TheVariants.{Task}
 use Rattle.demand.proofs.Inside.Slices.{part-shorter}
 use Rattle.priority.proofs.Inside.Ranks.{next-short, next-head, fewer_head, fewer-part}
-use Prim.Native.Nat.{ℕ, ◌<◌}
-use Rattle.priority.proofs.ranks.+next.{statement}
 use Rattle.priority.proofs.ranks.+next.Goals as goal
 
 pub returns-then-tasks-own : goal.returns-then-tasks-own

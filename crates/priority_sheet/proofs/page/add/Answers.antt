@@ -1,7 +1,6 @@
-use native.Mathlib.Numerals.{add-one}
 use native.Mathlib.Omega.{arith}
-use Prim.Native.Nat.{◌+◌, ◌-◌, ◌≤◌}
-use lib.ListN.{length, take, get_or, set}
+use Prim.Native.Nat.{◌+◌}
+use lib.ListN.{take, get_or, set}
 use Rattle.priority_sheet.specs.Whole.{laid}
 use Rattle.priority_sheet.proofs.Laid.{laid_next}
 use mathlib.Core.List.{List}

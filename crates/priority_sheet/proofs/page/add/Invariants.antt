@@ -1,12 +1,7 @@
-use native.Mathlib.Numerals.{add-one}
-use native.Mathlib.Omega.{arith}
-use Prim.Native.Nat.{◌+◌, ◌-◌, ◌≤◌}
-use lib.ListN.{length, take, get_or, set}
+use Prim.Native.Nat.{◌-◌, ◌≤◌}
+use lib.ListN.{take}
 use Rattle.priority_sheet.specs.Whole.{laid}
-use Rattle.priority_sheet.proofs.Laid.{laid_next}
-use mathlib.Core.List.{List}
-use mathlib.Core.Path.{◌≡◌, refl, ap, ◌∙◌}
-use Prim.Native.Nat.{ℕ}
+use mathlib.Core.Path.{◌≡◌}
 use Rattle.priority_sheet.proofs.page.add.Given as goal
 
 abbrev pub invariant-loop-i : goal.invariant-loop-i

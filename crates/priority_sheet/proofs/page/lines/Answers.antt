@@ -1,7 +1,4 @@
-use borrow.Author.Rules.{rules}
 use native.Mathlib.Omega.{arith}
-use Prim.Native.Nat.{◌+◌}
-use lib.ListN.{length}
 use Rattle.priority_sheet.specs.Printed.{refused_line}
 use Rattle.priority_sheet.proofs.Laid.{text-room}
 use Rattle.priority_sheet.proofs.Printed.{refused-line-most}

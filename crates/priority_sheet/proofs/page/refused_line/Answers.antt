@@ -1,5 +1,4 @@
 use Rattle.priority_sheet.proofs.Printed.{refused-line-written}
-use borrow.Author.Rules.{rules}
 use Rattle.priority_sheet.proofs.page.refused_line.Goals as goal
 
 pub returns : goal.returns

@@ -1,10 +1,8 @@
-use mathlib.Core.List.{List, [], ◌++◌}
-use mathlib.Core.Path.{◌≡◌, refl, sym, ap, subst, ◌∙◌}
-use native.Mathlib.Nat.{mul-le-mul}
+use mathlib.Core.Path.{◌≡◌, refl, ap, ◌∙◌}
 use native.Mathlib.Omega.{arith}
-use Prim.Native.Nat.{ℕ, zero, ◌+◌, ◌-◌, ◌*◌, ◌≤◌}
+use Prim.Native.Nat.{ℕ, ◌+◌}
 use lib.ListN.{length, get_or}
-use Rattle.priority_sheet.specs.Printed.{task_line, task_lines, line_most}
+use Rattle.priority_sheet.specs.Printed.{task_line, task_lines}
 use Rattle.priority_sheet.specs.Whole.{laid}
 use Rattle.priority_sheet.proofs.Laid.{text-room, text-laid}
 use Rattle.priority_sheet.proofs.Printed.{task-line-most, task-lines-most, task-lines-next}

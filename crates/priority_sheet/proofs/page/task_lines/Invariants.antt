@@ -1,13 +1,8 @@
-use mathlib.Core.List.{List, [], ◌++◌}
-use mathlib.Core.Path.{◌≡◌, refl, sym, ap, subst, ◌∙◌}
-use native.Mathlib.Nat.{mul-le-mul}
-use native.Mathlib.Omega.{arith}
-use Prim.Native.Nat.{ℕ, zero, ◌+◌, ◌-◌, ◌*◌, ◌≤◌}
-use lib.ListN.{length, get_or}
-use Rattle.priority_sheet.specs.Printed.{task_line, task_lines, line_most}
+use mathlib.Core.Path.{◌≡◌}
+use Prim.Native.Nat.{◌+◌, ◌-◌, ◌≤◌}
+use lib.ListN.{length}
+use Rattle.priority_sheet.specs.Printed.{task_lines}
 use Rattle.priority_sheet.specs.Whole.{laid}
-use Rattle.priority_sheet.proofs.Laid.{text-room, text-laid}
-use Rattle.priority_sheet.proofs.Printed.{task-line-most, task-lines-most, task-lines-next}
 use Rattle.priority_sheet.proofs.page.task_lines.Given as goal
 
 abbrev pub invariant-loop-k : goal.invariant-loop-k

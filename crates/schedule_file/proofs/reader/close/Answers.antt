@@ -1,6 +1,5 @@
 use mathlib.Core.Path.{sym, ◌∙◌}
 use Rattle.schedule_file.proofs.Inside.Builds.{close-short, close-full, close-broken}
-use borrow.Author.Rules.{rules}
 use Rattle.schedule_file.proofs.reader.close.Goals as goal
 
 pub returns-then-is_start : goal.returns-then-is_start

@@ -1,4 +1,4 @@
-use mathlib.Core.List.{[], ◌∷◌}
+use mathlib.Core.List.{[]}
 use mathlib.Core.Path.{◌≡◌, refl, sym, ap, subst, ◌∙◌}
 use mathlib.Core.Bool.{Bool}
 use mathlib.Core.List.{List, ◌++◌}
@@ -12,7 +12,6 @@ use Rattle.demand.specs.declared.table.Kind.{Kind}
 use Rattle.schedule_file.specs.declared.steps.State.{State}
 use Rattle.schedule_file.specs.declared.steps.State.TheVariants.{Broken, Head, HeadCr, Start, First, Digits, RowCr}
 use Rattle.schedule_file.proofs.Inside.Builds.{built-same, grows-as}
-use borrow.Author.Rules.{rules}
 use Rattle.schedule_file.proofs.reader.feed.Goals as goal
 
 -- No state but RowCr has a row done.

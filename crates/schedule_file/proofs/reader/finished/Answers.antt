@@ -1,5 +1,4 @@
 use Rattle.schedule_file.proofs.Inside.Builds.{finished-over, finished-few}
-use borrow.Author.Rules.{rules}
 use Rattle.schedule_file.proofs.reader.finished.Goals as goal
 
 pub returns-then-n-gt-SEGMENTS_MOST : goal.returns-then-n-gt-SEGMENTS_MOST

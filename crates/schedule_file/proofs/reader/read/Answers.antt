@@ -1,9 +1,6 @@
 use native.Mathlib.Omega.{arith}
-use Prim.Native.Nat.{◌-◌, ◌≤◌}
-use lib.ListN.{length}
 use Rattle.schedule_file.proofs.Read.{read-says}
-use Rattle.schedule_file.proofs.Inside.Builds.{Stands, stands-first, stands-next, stands-end}
-use borrow.Author.Rules.{rules}
+use Rattle.schedule_file.proofs.Inside.Builds.{stands-first, stands-next, stands-end}
 use Rattle.schedule_file.proofs.reader.read.Goals as goal
 
 pub loop-i-init : goal.loop-i-init

@@ -1,4 +1,3 @@
-use borrow.Author.Rules.{rules}
 use Rattle.schedule_file.proofs.steps.after.Goals as goal
 
 pub returns-in-Row : goal.returns-in-Row

@@ -1,7 +1,6 @@
 use Rattle.schedule_file.specs.File.{header}
 use lib.ListN.{get_or-eq_default}
 use mathlib.Core.Path.{sym}
-use borrow.Author.Rules.{rules}
 use Rattle.schedule_file.proofs.steps.header_byte.Goals as goal
 
 pub returns-else-k-lt-HEADER_LEN : goal.returns-else-k-lt-HEADER_LEN

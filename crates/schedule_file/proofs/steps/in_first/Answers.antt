@@ -1,5 +1,4 @@
 use mathlib.Core.Path.{sym, ◌∙◌}
-use borrow.Author.Rules.{rules}
 use Rattle.schedule_file.proofs.steps.in_first.Goals as goal
 
 pub worth-requires : goal.worth-requires

@@ -6,7 +6,6 @@ use Rattle.segments.specs.Promise.{figures}
 use Rattle.text.specs.Numbers.{fields_of}
 use Rattle.text.specs.Text.{puts_of}
 use Rattle.schedule_sheet.proofs.Printed.{chained, lines-printed}
-use borrow.Author.Rules.{rules}
 use Rattle.schedule_sheet.proofs.lines.of_answer.Goals as goal
 
 pub returns : goal.returns

@@ -1,5 +1,4 @@
 use Rattle.segments.specs.Promise.{figures}
-use borrow.Author.Rules.{rules}
 use Rattle.schedule_sheet.proofs.lines.with_word.Goals as goal
 
 pub returns-in-Accepted : goal.returns-in-Accepted

@@ -1,12 +1,7 @@
-use mathlib.Core.Path.{◌≡◌, refl, sym, ap, ◌∙◌}
-use native.Mathlib.Omega.{arith}
-use borrow.Author.Rules.{rules}
-use borrow.Author.Tests.{not-true, not-false}
-use Prim.Native.Nat.{ℕ, ◌+◌, ◌-◌, ◌≤◌, ◌<◌}
-use lib.ListN.{length, get_or, drop}
-use Rattle.text.proofs.Numbers.{continues-below}
+use mathlib.Core.Path.{◌≡◌}
+use Prim.Native.Nat.{◌-◌, ◌≤◌, ◌<◌}
+use lib.ListN.{length, drop}
 use Rattle.schedule_sheet.specs.Spans.{span_limit, digits_from}
-use Rattle.schedule_sheet.proofs.Said.{digits-stop, digits-on, digits-end}
 use Rattle.schedule_sheet.proofs.spans.digits_from.Given as goal
 
 -- What is still to be read says what the whole does.

@@ -5,7 +5,6 @@ use lib.ListN.{get_or, drop}
 use Rattle.schedule_sheet.specs.Spans.{digits_from}
 use Rattle.text.proofs.Numbers.{digit-true}
 use Rattle.schedule_sheet.proofs.Said.{said-short, said-on, said-not}
-use borrow.Author.Rules.{rules}
 use Rattle.schedule_sheet.proofs.spans.span_said.Goals as goal
 
 pub returns-then-said-lt1 : goal.returns-then-said-lt1

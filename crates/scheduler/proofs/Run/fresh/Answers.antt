@@ -1,5 +1,4 @@
 use mathlib.Core.Path.{sym, ◌∙◌}
-use borrow.Author.Rules.{rules}
 use Rattle.scheduler.proofs.Promise.{fresh-says}
 use Rattle.scheduler.proofs.Steps.Tables.{fresh-ready, fresh-refused}
 use Rattle.scheduler.proofs.Run.fresh.Goals as goal

@@ -1,9 +1,6 @@
-use mathlib.Core.Path.{◌≡◌, sym}
+use mathlib.Core.Path.{sym}
 use native.Mathlib.Omega.{arith}
 use borrow.Author.Rules.{rules}
-use Prim.Native.Nat.{◌+◌, ◌≤◌, ◌-◌}
-use lib.ListN.{length, get_or}
-use Rattle.scheduler.specs.Scans.{filled}
 use Rattle.scheduler.specs.Tick.{owed_arrived}
 use Rattle.scheduler.proofs.Steps.Scan.{filled_zero, filled-old, filled-turn, filled-end}
 use Rattle.scheduler.proofs.arrivals.add_work.Goals as goal

@@ -1,11 +1,7 @@
-use mathlib.Core.Path.{◌≡◌, sym}
-use native.Mathlib.Omega.{arith}
-use borrow.Author.Rules.{rules}
+use mathlib.Core.Path.{◌≡◌}
 use Prim.Native.Nat.{◌+◌, ◌≤◌, ◌-◌}
 use lib.ListN.{length, get_or}
 use Rattle.scheduler.specs.Scans.{filled}
-use Rattle.scheduler.specs.Tick.{owed_arrived}
-use Rattle.scheduler.proofs.Steps.Scan.{filled_zero, filled-old, filled-turn, filled-end}
 use Rattle.scheduler.proofs.arrivals.add_work.Given as goal
 
 abbrev pub invariant-loop-k : goal.invariant-loop-k

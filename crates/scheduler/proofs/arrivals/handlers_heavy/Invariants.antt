@@ -1,10 +1,7 @@
-use mathlib.Core.Path.{◌≡◌, sym, ap}
-use borrow.Author.Rules.{rules}
+use mathlib.Core.Path.{◌≡◌}
 use Prim.Native.Nat.{◌≤◌, ◌-◌}
-use Rattle.demand.specs.Rows.{Row}
 use Rattle.scheduler.specs.Inside.OnePass.{heavy_handler}
 use Rattle.scheduler.specs.Scans.{any}
-use Rattle.scheduler.proofs.Steps.Scan.{at-end, any-zero, any-turn}
 use Rattle.scheduler.proofs.arrivals.handlers_heavy.Given as goal
 
 abbrev pub invariant-loop-i : goal.invariant-loop-i

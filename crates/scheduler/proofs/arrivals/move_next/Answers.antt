@@ -1,12 +1,10 @@
-use mathlib.Core.Path.{◌∙◌, ◌≡◌, sym, ap}
+use mathlib.Core.Path.{◌∙◌, sym, ap}
 use native.Mathlib.Omega.{arith}
 use borrow.Author.Rules.{rules}
-use Prim.Native.Nat.{◌+◌, ◌≤◌, ◌-◌}
-use lib.ListN.{length, get_or}
+use Prim.Native.Nat.{◌+◌}
 use Rattle.demand.specs.Rows.{Row}
 use Rattle.scheduler.specs.Runs.{row_on}
-use Rattle.scheduler.specs.Scans.{filled}
-use Rattle.scheduler.specs.Tick.{next_after, next_arrived}
+use Rattle.scheduler.specs.Tick.{next_arrived}
 use Rattle.scheduler.proofs.Steps.RowPlaces.{fair-at}
 use Rattle.scheduler.proofs.Steps.Scan.{filled_zero, filled-old, filled-turn, filled-end}
 use Rattle.scheduler.proofs.arrivals.move_next.Goals as goal

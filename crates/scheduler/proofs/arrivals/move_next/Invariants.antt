@@ -1,14 +1,9 @@
-use mathlib.Core.Path.{◌∙◌, ◌≡◌, sym, ap}
-use native.Mathlib.Omega.{arith}
-use borrow.Author.Rules.{rules}
-use Prim.Native.Nat.{◌+◌, ◌≤◌, ◌-◌}
+use mathlib.Core.Path.{◌≡◌}
+use Prim.Native.Nat.{◌≤◌, ◌-◌}
 use lib.ListN.{length, get_or}
-use Rattle.demand.specs.Rows.{Row}
 use Rattle.scheduler.specs.Runs.{row_on}
 use Rattle.scheduler.specs.Scans.{filled}
-use Rattle.scheduler.specs.Tick.{next_after, next_arrived}
-use Rattle.scheduler.proofs.Steps.RowPlaces.{fair-at}
-use Rattle.scheduler.proofs.Steps.Scan.{filled_zero, filled-old, filled-turn, filled-end}
+use Rattle.scheduler.specs.Tick.{next_after}
 use Rattle.scheduler.proofs.arrivals.move_next.Given as goal
 
 abbrev pub invariant-loop-k : goal.invariant-loop-k

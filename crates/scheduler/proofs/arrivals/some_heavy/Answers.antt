@@ -1,4 +1,3 @@
-use borrow.Author.Rules.{rules}
 use Rattle.scheduler.proofs.Steps.OnePass.{heavy-by-kind}
 use Rattle.scheduler.proofs.arrivals.some_heavy.Goals as goal
 

@@ -1,8 +1,6 @@
-use mathlib.Core.Path.{◌≡◌, sym, ap}
+use mathlib.Core.Path.{sym, ap}
 use borrow.Author.Rules.{rules}
-use Prim.Native.Nat.{◌≤◌, ◌-◌}
 use Rattle.demand.specs.Rows.{Row}
-use Rattle.scheduler.specs.Inside.OnePass.{heavy_task}
 use Rattle.scheduler.specs.Scans.{any}
 use Rattle.scheduler.proofs.Steps.Scan.{at-end, any-zero, any-turn}
 use Rattle.scheduler.proofs.arrivals.tasks_heavy.Goals as goal

@@ -1,9 +1,6 @@
-use mathlib.Core.List.{◌++◌}
-use mathlib.Core.Path.{◌≡◌, refl}
+use mathlib.Core.Path.{refl}
 use native.Mathlib.Omega.{arith}
 use borrow.Author.Rules.{rules}
-use Prim.Native.Nat.{◌≤◌, ◌-◌}
-use lib.ListN.{length, take, drop}
 use Rattle.scheduler.proofs.Steps.Copies.{copy-turn, copy-end, copy-length}
 use Rattle.scheduler.proofs.begin.copy_in.Goals as goal
 

@@ -1,10 +1,7 @@
 use mathlib.Core.List.{◌++◌}
-use mathlib.Core.Path.{◌≡◌, refl}
-use native.Mathlib.Omega.{arith}
-use borrow.Author.Rules.{rules}
+use mathlib.Core.Path.{◌≡◌}
 use Prim.Native.Nat.{◌≤◌, ◌-◌}
 use lib.ListN.{length, take, drop}
-use Rattle.scheduler.proofs.Steps.Copies.{copy-turn, copy-end, copy-length}
 use Rattle.scheduler.proofs.begin.copy_in.Given as goal
 
 abbrev pub invariant-loop-k : goal.invariant-loop-k

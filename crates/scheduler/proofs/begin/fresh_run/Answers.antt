@@ -1,4 +1,3 @@
-use borrow.Author.Rules.{rules}
 use Rattle.scheduler.specs.Start.{zeros}
 use Rattle.scheduler.proofs.Steps.Tables.{tasks-fit, handlers-fit, fresh-made}
 use Rattle.scheduler.proofs.begin.fresh_run.Goals as goal

@@ -1,4 +1,3 @@
-use borrow.Author.Rules.{rules}
 use Rattle.scheduler.proofs.bounds.earliest_due.Goals as goal
 
 pub returns-else-over : goal.returns-else-over

@@ -1,5 +1,4 @@
 use native.Mathlib.Omega.{arith}
-use borrow.Author.Rules.{rules}
 use Rattle.demand.proofs.Refusals.{fair-row}
 use Rattle.demand.specs.Rows.{row_of}
 use Rattle.scheduler.proofs.Steps.OnePass.{handler-figures, handler-rest}

@@ -1,9 +1,9 @@
-use mathlib.Core.Path.{◌≡◌, sym, ap, ◌∙◌}
+use mathlib.Core.Path.{sym, ap, ◌∙◌}
 use borrow.Author.Rules.{rules}
-use Prim.Native.Nat.{◌+◌, ◌≤◌, ◌-◌}
+use Prim.Native.Nat.{◌+◌}
 use lib.ListN.{get_or}
 use Rattle.demand.specs.Rows.{Row}
-use Rattle.scheduler.specs.Inside.OnePass.{handler_out, handler_out_at}
+use Rattle.scheduler.specs.Inside.OnePass.{handler_out}
 use Rattle.scheduler.specs.Scans.{any}
 use Rattle.scheduler.proofs.Steps.Scan.{at-end, any-zero, any-turn}
 use Rattle.scheduler.proofs.bounds.handlers_out.Goals as goal

@@ -1,4 +1,3 @@
-use borrow.Author.Rules.{rules}
 use Rattle.scheduler.proofs.Steps.Scan.{or-false}
 use Rattle.scheduler.proofs.bounds.late_out.Goals as goal
 

@@ -1,4 +1,3 @@
-use borrow.Author.Rules.{rules}
 use Rattle.scheduler.proofs.bounds.names.Goals as goal
 
 pub returns-in-Task-first : goal.returns-in-Task-first

@@ -1,4 +1,3 @@
-use borrow.Author.Rules.{rules}
 use Rattle.scheduler.proofs.Steps.OnePass.{begun, out_first, out-pass}
 use Rattle.scheduler.proofs.bounds.out_of_bounds.Goals as goal
 

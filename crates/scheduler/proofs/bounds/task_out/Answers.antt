@@ -1,5 +1,4 @@
 use native.Mathlib.Omega.{arith}
-use borrow.Author.Rules.{rules}
 use Rattle.demand.specs.Rows.{row_of}
 use Rattle.scheduler.proofs.Steps.OnePass.{task-figures, task-rest, task-fair}
 use Rattle.scheduler.proofs.bounds.task_out.Goals as goal

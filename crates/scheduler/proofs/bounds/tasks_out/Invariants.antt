@@ -1,11 +1,7 @@
-use mathlib.Core.Path.{◌≡◌, sym, ap, ◌∙◌}
-use borrow.Author.Rules.{rules}
+use mathlib.Core.Path.{◌≡◌}
 use Prim.Native.Nat.{◌≤◌, ◌-◌}
-use lib.ListN.{get_or}
-use Rattle.demand.specs.Rows.{Row}
-use Rattle.scheduler.specs.Inside.OnePass.{task_out, task_out_at}
+use Rattle.scheduler.specs.Inside.OnePass.{task_out_at}
 use Rattle.scheduler.specs.Scans.{any}
-use Rattle.scheduler.proofs.Steps.Scan.{at-end, any-zero, any-turn}
 use Rattle.scheduler.proofs.bounds.tasks_out.Given as goal
 
 abbrev pub invariant-loop-k : goal.invariant-loop-k

@@ -1,5 +1,3 @@
-use native.Mathlib.Omega.{arith}
-use borrow.Author.Rules.{rules}
 use Rattle.scheduler.proofs.places.places_used.Goals as goal
 
 pub returns : goal.returns

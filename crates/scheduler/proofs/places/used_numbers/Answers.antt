@@ -1,9 +1,5 @@
-use mathlib.Core.Bool.{◌||◌}
-use mathlib.Core.Path.{◌≡◌, refl}
+use mathlib.Core.Path.{refl}
 use borrow.Author.Rules.{rules}
-use Prim.Native.Nat.{◌≤◌, ◌-◌}
-use lib.ListN.{length, drop}
-use Rattle.scheduler.specs.Scans.{used}
 use Rattle.scheduler.proofs.Steps.Scan.{used_turn, used-end}
 use Rattle.scheduler.proofs.places.used_numbers.Goals as goal
 

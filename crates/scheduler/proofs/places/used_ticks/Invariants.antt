@@ -1,10 +1,8 @@
 use mathlib.Core.Bool.{◌||◌}
-use mathlib.Core.Path.{◌≡◌, refl}
-use borrow.Author.Rules.{rules}
+use mathlib.Core.Path.{◌≡◌}
 use Prim.Native.Nat.{◌≤◌, ◌-◌}
 use lib.ListN.{length, drop}
 use Rattle.scheduler.specs.Scans.{used}
-use Rattle.scheduler.proofs.Steps.Scan.{used_turn, used-end}
 use Rattle.scheduler.proofs.places.used_ticks.Given as goal
 
 abbrev pub invariant-loop-k : goal.invariant-loop-k

@@ -1,6 +1,5 @@
 use mathlib.Core.Path.{sym, ◌∙◌}
 use native.Mathlib.Omega.{arith}
-use borrow.Author.Rules.{rules}
 use Rattle.scheduler.proofs.Steps.Answers.{refusal-6, refusal-7, refusal-8, refusal-9, refusal-10, refusal-11, refusal-0}
 use Rattle.scheduler.proofs.Steps.Clauses.{clauses, clauses-fit}
 use Rattle.scheduler.proofs.refusal.of_step.Goals as goal

@@ -1,5 +1,4 @@
 use native.Mathlib.Omega.{arith}
-use borrow.Author.Rules.{rules}
 use Rattle.scheduler.proofs.Steps.RowPlaces.{numbers_fit}
 use Rattle.scheduler.proofs.rows.numbers.Goals as goal
 

@@ -1,10 +1,5 @@
-use mathlib.Core.Path.{◌≡◌, refl, sym, ap, ◌∙◌}
-use mathlib.Core.List.{List}
-use native.Mathlib.Numerals.{add-one}
-use borrow.Author.Rules.{rules}
+use mathlib.Core.Path.{◌≡◌, refl, ap, ◌∙◌}
 use native.Mathlib.Omega.{arith}
-use Prim.Native.Nat.{ℕ, ◌+◌, ◌-◌, ◌≤◌}
-use lib.ListN.{set}
 use Rattle.demand.specs.Rows.{Row}
 use Rattle.scheduler.specs.Inside.Keys.{periods_of}
 use Rattle.scheduler.specs.Scans.{filled}

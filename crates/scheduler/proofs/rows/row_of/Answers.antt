@@ -1,5 +1,4 @@
 use native.Mathlib.Omega.{arith}
-use borrow.Author.Rules.{rules}
 use Rattle.demand.proofs.Inside.Slices.{from-length}
 use Rattle.scheduler.proofs.Steps.RowPlaces.{numbers_fit, row_read}
 use Rattle.scheduler.proofs.rows.row_of.Goals as goal

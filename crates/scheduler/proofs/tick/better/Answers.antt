@@ -1,4 +1,3 @@
-
 use Rattle.scheduler.proofs.tick.better.Goals as goal
 
 pub returns-then-take : goal.returns-then-take

@@ -4,7 +4,6 @@ use Prim.Native.Nat.{ℕ}
 use Rattle.scheduler.specs.Scans.{at}
 use Rattle.scheduler.specs.Tick.{goes_to}
 use Rattle.scheduler.proofs.Steps.Keys.{periods-keys}
-use borrow.Author.Rules.{rules}
 use Rattle.scheduler.proofs.tick.chosen.Goals as goal
 
 pub returns-in-Deadline : goal.returns-in-Deadline

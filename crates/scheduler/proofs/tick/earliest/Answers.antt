@@ -1,7 +1,5 @@
-use mathlib.Core.Path.{◌≡◌, sym}
+use mathlib.Core.Path.{sym}
 use borrow.Author.Rules.{rules}
-use Prim.Native.Nat.{◌≤◌, ◌-◌}
-use Rattle.scheduler.specs.Scans.{at}
 use Rattle.scheduler.specs.Tick.{earliest}
 use Rattle.scheduler.proofs.Steps.Earliest.{earliest-zero, earliest-next}
 use Rattle.scheduler.proofs.Steps.Scan.{at-end}

@@ -1,10 +1,7 @@
-use mathlib.Core.Path.{◌≡◌, sym}
-use borrow.Author.Rules.{rules}
+use mathlib.Core.Path.{◌≡◌}
 use Prim.Native.Nat.{◌≤◌, ◌-◌}
 use Rattle.scheduler.specs.Scans.{at}
 use Rattle.scheduler.specs.Tick.{earliest}
-use Rattle.scheduler.proofs.Steps.Earliest.{earliest-zero, earliest-next}
-use Rattle.scheduler.proofs.Steps.Scan.{at-end}
 use Rattle.scheduler.proofs.tick.earliest.Given as goal
 
 abbrev pub invariant-loop-k : goal.invariant-loop-k

@@ -1,10 +1,8 @@
-use mathlib.Core.Bool.{false}
-use mathlib.Core.Path.{◌≡◌, sym}
+use mathlib.Core.Path.{sym}
 use borrow.Author.Rules.{rules}
 use borrow.Author.Tests.{lt-ltb, le-ltb}
-use Prim.Native.Nat.{◌≤◌, ◌-◌}
 use Rattle.scheduler.specs.Scans.{any}
-use Rattle.scheduler.specs.Tick.{owed_at, goes_to}
+use Rattle.scheduler.specs.Tick.{goes_to}
 use Rattle.scheduler.proofs.Steps.Scan.{any-zero, any-skip, first-none, first-here, at-end}
 use Rattle.scheduler.proofs.tick.goes_to.Goals as goal
 

@@ -1,9 +1,7 @@
-use mathlib.Core.Bool.{false}
-use mathlib.Core.Path.{◌≡◌, sym}
+use mathlib.Core.Path.{sym}
 use borrow.Author.Rules.{rules}
-use Prim.Native.Nat.{◌≤◌, ◌-◌}
-use Rattle.scheduler.specs.Scans.{at, any}
-use Rattle.scheduler.specs.Tick.{is_late, late_row}
+use Rattle.scheduler.specs.Scans.{any}
+use Rattle.scheduler.specs.Tick.{late_row}
 use Rattle.scheduler.proofs.Steps.Scan.{any-zero, any-skip, first-none, first-here, at-end}
 use Rattle.scheduler.proofs.tick.late_row.Goals as goal
 

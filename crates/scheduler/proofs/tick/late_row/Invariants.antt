@@ -1,10 +1,8 @@
 use mathlib.Core.Bool.{false}
-use mathlib.Core.Path.{◌≡◌, sym}
-use borrow.Author.Rules.{rules}
+use mathlib.Core.Path.{◌≡◌}
 use Prim.Native.Nat.{◌≤◌, ◌-◌}
 use Rattle.scheduler.specs.Scans.{at, any}
-use Rattle.scheduler.specs.Tick.{is_late, late_row}
-use Rattle.scheduler.proofs.Steps.Scan.{any-zero, any-skip, first-none, first-here, at-end}
+use Rattle.scheduler.specs.Tick.{is_late}
 use Rattle.scheduler.proofs.tick.late_row.Given as goal
 
 abbrev pub invariant-loop-k : goal.invariant-loop-k

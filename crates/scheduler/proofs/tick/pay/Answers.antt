@@ -1,6 +1,5 @@
 use mathlib.Core.Path.{sym, ap}
 use native.Mathlib.Omega.{arith}
-use borrow.Author.Rules.{rules}
 use Rattle.scheduler.specs.Tick.{paid}
 use Rattle.scheduler.proofs.Steps.Goes.{handler-pays, task-pays}
 use Rattle.scheduler.proofs.tick.pay.Goals as goal

@@ -1,6 +1,5 @@
 use mathlib.Core.Path.{◌∙◌}
 use native.Mathlib.Omega.{arith}
-use borrow.Author.Rules.{rules}
 use Rattle.scheduler.proofs.Steps.Answers.{passed}
 use Rattle.scheduler.proofs.Steps.Clauses.{clauses, clauses-fit, clauses-table, clauses-clock, clauses-owed}
 use Rattle.scheduler.proofs.Steps.Goes.{goes-pays}

@@ -3,7 +3,6 @@ use native.Mathlib.Omega.{arith}
 use Prim.Native.Nat.{ℕ, ◌+◌}
 use Rattle.demand.specs.Rows.{row_of}
 use Rattle.segments.proofs.Looks.Figures.{calls-most, work-most, periods-most, heavy-short, heavy-lasts}
-use borrow.Author.Rules.{rules}
 use Rattle.segments.proofs.look.heavy_lapse.Goals as goal
 
 pub overflow_mul-work : goal.overflow_mul-work

@@ -1,8 +1,5 @@
 use mathlib.Core.Path.{◌∙◌}
-use native.Mathlib.Omega.{arith}
-use Rattle.demand.specs.Rows.{row_of}
 use Rattle.segments.proofs.Looks.Figures.{calls_is, lapse-light, lapse-heavy}
-use borrow.Author.Rules.{rules}
 use Rattle.segments.proofs.look.lapse.Goals as goal
 
 pub light_lapse-requires : goal.light_lapse-requires

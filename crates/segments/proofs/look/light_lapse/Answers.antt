@@ -4,7 +4,6 @@ use native.Mathlib.Omega.{arith}
 use Prim.Native.Nat.{ℕ, ◌+◌, ◌-◌, ◌*◌}
 use Rattle.demand.specs.Rows.{row_of}
 use Rattle.segments.proofs.Looks.Figures.{lapse-most, work-most, last-read}
-use borrow.Author.Rules.{rules}
 use Rattle.segments.proofs.look.light_lapse.Goals as goal
 
 pub overflow_add-above : goal.overflow_add-above

@@ -1,11 +1,9 @@
-use mathlib.Core.Path.{◌≡◌, ap}
+use mathlib.Core.Path.{ap}
 use native.Mathlib.Nat.{mul-le-mul}
 use native.Mathlib.Omega.{arith}
 use Prim.Native.Nat.{ℕ, ◌*◌}
-use Rattle.demand.specs.Rows.{width}
 use Rattle.demand.proofs.Inside.Slices.{from-length, width-most}
 use Rattle.segments.proofs.Looks.Figures.{row_fits, row_read}
-use borrow.Author.Rules.{rules}
 use Rattle.segments.proofs.look.row_of.Goals as goal
 
 pub overflow_mul-at : goal.overflow_mul-at

@@ -1,7 +1,6 @@
 use native.Mathlib.Omega.{arith}
 use Rattle.demand.specs.Rows.{row_of}
 use Rattle.segments.proofs.Looks.Figures.{due-most, due-behind, jobs-most, next-work-most, run_short, run-met}
-use borrow.Author.Rules.{rules}
 use Rattle.segments.proofs.look.run.Goals as goal
 
 pub overflow_mul-due : goal.overflow_mul-due

@@ -1,7 +1,6 @@
 use native.Mathlib.Omega.{arith}
 use Rattle.demand.specs.Rows.{row_of}
 use Rattle.segments.proofs.Looks.Figures.{wait-most}
-use borrow.Author.Rules.{rules}
 use Rattle.segments.proofs.look.wait.Goals as goal
 
 pub overflow_mul-given : goal.overflow_mul-given

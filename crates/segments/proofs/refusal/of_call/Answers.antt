@@ -2,7 +2,6 @@ use native.Mathlib.Nat.{pos_of_ne-zero}
 use native.Mathlib.Omega.{arith}
 use Rattle.segments.proofs.Refusals.{refused-own, refused-limit}
 use Rattle.verdict.proofs.Sayings.{says-readable}
-use borrow.Author.Rules.{rules}
 use Rattle.segments.proofs.refusal.of_call.Goals as goal
 
 pub returns-then-number-gt0 : goal.returns-then-number-gt0

@@ -1,6 +1,5 @@
 use mathlib.Core.Path.{sym, ◌∙◌}
 use Rattle.segments.proofs.Refusals.{refused-16, refused-17, refused_none, span-read}
-use borrow.Author.Rules.{rules}
 use Rattle.segments.proofs.refusal.of_schedule.Goals as goal
 
 pub returns-then-unreadable : goal.returns-then-unreadable

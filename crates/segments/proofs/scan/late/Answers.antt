@@ -1,5 +1,3 @@
-use mathlib.Core.Path.{sym, ◌∙◌}
-use borrow.Author.Rules.{rules}
 use Rattle.segments.proofs.scan.late.Goals as goal
 
 pub returns-then-runs : goal.returns-then-runs

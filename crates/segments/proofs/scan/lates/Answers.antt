@@ -1,10 +1,9 @@
 use mathlib.Core.Path.{ap, ◌∙◌}
 use native.Mathlib.Omega.{arith}
-use Prim.Native.Nat.{◌-◌, min}
+use Prim.Native.Nat.{min}
 use Rattle.demand.specs.Rows.{tasks_of}
 use Rattle.segments.specs.Inside.{given_at}
-use Rattle.segments.proofs.Looks.Scans.{LatesSoFar, lates-start, lates-turn, lates-end, fair-at, cost-at, sound-at}
-use borrow.Author.Rules.{rules}
+use Rattle.segments.proofs.Looks.Scans.{lates-start, lates-turn, lates-end, fair-at, cost-at, sound-at}
 use Rattle.segments.proofs.scan.lates.Goals as goal
 
 pub loop-j-init : goal.loop-j-init

@@ -1,10 +1,7 @@
-use mathlib.Core.Path.{ap, ◌∙◌}
-use native.Mathlib.Omega.{arith}
-use Prim.Native.Nat.{◌-◌, min}
+use Prim.Native.Nat.{◌-◌}
 use Rattle.demand.specs.Rows.{tasks_of}
 use Rattle.segments.specs.Inside.{given_at}
-use Rattle.segments.proofs.Looks.Scans.{LatesSoFar, lates-start, lates-turn, lates-end, fair-at, cost-at, sound-at}
-use borrow.Author.Rules.{rules}
+use Rattle.segments.proofs.Looks.Scans.{LatesSoFar}
 use Rattle.segments.proofs.scan.lates.Given as goal
 
 abbrev pub invariant-loop-j : goal.invariant-loop-j

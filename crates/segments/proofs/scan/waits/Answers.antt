@@ -1,11 +1,10 @@
 use mathlib.Core.Path.{ap, ◌∙◌}
 use native.Mathlib.Omega.{arith}
-use Prim.Native.Nat.{◌-◌, ◌+◌, min}
+use Prim.Native.Nat.{◌+◌, min}
 use Rattle.demand.specs.Limits.{tasks_most}
 use Rattle.demand.specs.Rows.{handlers_of}
 use Rattle.segments.specs.Inside.{handler_given}
-use Rattle.segments.proofs.Looks.Scans.{WaitsSoFar, waits_start, waits-turn, waits_end, fair-at, cost-at}
-use borrow.Author.Rules.{rules}
+use Rattle.segments.proofs.Looks.Scans.{waits_start, waits-turn, waits_end, fair-at, cost-at}
 use Rattle.segments.proofs.scan.waits.Goals as goal
 
 pub loop-j-init : goal.loop-j-init

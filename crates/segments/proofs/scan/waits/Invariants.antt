@@ -1,11 +1,7 @@
-use mathlib.Core.Path.{ap, ◌∙◌}
-use native.Mathlib.Omega.{arith}
-use Prim.Native.Nat.{◌-◌, ◌+◌, min}
-use Rattle.demand.specs.Limits.{tasks_most}
+use Prim.Native.Nat.{◌-◌}
 use Rattle.demand.specs.Rows.{handlers_of}
 use Rattle.segments.specs.Inside.{handler_given}
-use Rattle.segments.proofs.Looks.Scans.{WaitsSoFar, waits_start, waits-turn, waits_end, fair-at, cost-at}
-use borrow.Author.Rules.{rules}
+use Rattle.segments.proofs.Looks.Scans.{WaitsSoFar}
 use Rattle.segments.proofs.scan.waits.Given as goal
 
 abbrev pub invariant-loop-j : goal.invariant-loop-j

@@ -1,6 +1,5 @@
 use mathlib.Core.Path.{refl}
 use Rattle.segments.proofs.Walks.Lent.{segment-read}
-use borrow.Author.Rules.{rules}
 use Rattle.segments.proofs.segment.at.Goals as goal
 
 pub returns : goal.returns

@@ -1,11 +1,7 @@
-use mathlib.Core.Path.{◌≡◌, refl, sym, ◌∙◌}
+use mathlib.Core.Path.{refl, sym, ◌∙◌}
 use native.Mathlib.Omega.{arith}
-use lib.ListN.{length, drop}
-use Prim.Native.Nat.{◌-◌, ◌≤◌}
-use Rattle.segments.specs.Promise.{disordered}
 use Rattle.segments.specs.Segments.{segments_of}
 use Rattle.segments.proofs.Walks.Lent.{order-stop, order-turn, order-end}
-use borrow.Author.Rules.{rules}
 use Rattle.segments.proofs.segment.disordered.Goals as goal
 
 pub loop-i-init : goal.loop-i-init

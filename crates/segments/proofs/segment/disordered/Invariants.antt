@@ -1,11 +1,8 @@
-use mathlib.Core.Path.{◌≡◌, refl, sym, ◌∙◌}
-use native.Mathlib.Omega.{arith}
+use mathlib.Core.Path.{◌≡◌}
 use lib.ListN.{length, drop}
 use Prim.Native.Nat.{◌-◌, ◌≤◌}
 use Rattle.segments.specs.Promise.{disordered}
 use Rattle.segments.specs.Segments.{segments_of}
-use Rattle.segments.proofs.Walks.Lent.{order-stop, order-turn, order-end}
-use borrow.Author.Rules.{rules}
 use Rattle.segments.proofs.segment.disordered.Given as goal
 
 abbrev pub invariant-loop-i : goal.invariant-loop-i

@@ -1,6 +1,5 @@
 use mathlib.Core.Path.{refl}
 use Rattle.segments.proofs.Walks.Lent.{place_other}
-use borrow.Author.Rules.{rules}
 use Rattle.segments.proofs.segment.place.Goals as goal
 
 pub returns-then-s-eq0 : goal.returns-then-s-eq0

@@ -4,7 +4,6 @@ use Rattle.demand.specs.Rows.{tasks_of, handlers_of}
 use Rattle.segments.specs.Inside.{given_at}
 use Rattle.segments.proofs.Looks.Scans.{lates-most}
 use Rattle.segments.proofs.Looks.Stretches.{told-broken, told-fine}
-use borrow.Author.Rules.{rules}
 use Rattle.segments.proofs.stretch.broken.Goals as goal
 
 pub overflow_add-result : goal.overflow_add-result

@@ -1,6 +1,5 @@
 use Rattle.demand.specs.Rows.{tasks_of, handlers_of}
 use Rattle.segments.proofs.Walks.Steps.{ready-gap, over-gap, over-segment}
-use borrow.Author.Rules.{rules}
 use Rattle.segments.proofs.stretch.over.Goals as goal
 
 pub broken-gap-requires : goal.broken-gap-requires

@@ -1,10 +1,9 @@
 use native.Mathlib.Omega.{arith}
 use Rattle.demand.specs.Limits.{tasks_most}
-use Rattle.demand.specs.Rows.{row_of, tasks_of, handlers_of}
+use Rattle.demand.specs.Rows.{tasks_of, handlers_of}
 use Prim.Native.Nat.{◌-◌}
 use Rattle.segments.proofs.Looks.Scans.{fair-at}
 use Rattle.segments.proofs.Looks.Stretches.{ticks-task, ticks-handler, ticks-nobody}
-use borrow.Author.Rules.{rules}
 use Rattle.segments.proofs.stretch.ticks.Goals as goal
 
 pub row_of-row-requires : goal.row_of-row-requires

@@ -6,7 +6,6 @@ use Rattle.text.specs.Numbers.{fields_of}
 use Rattle.text.specs.Text.{puts_of}
 use Rattle.verdict.specs.Promise.{figures}
 use Rattle.sheet.proofs.Printed.{chained, lines-printed}
-use borrow.Author.Rules.{rules}
 use Rattle.sheet.proofs.lines.of_answer.Goals as goal
 
 pub returns : goal.returns

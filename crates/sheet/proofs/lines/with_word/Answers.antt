@@ -1,5 +1,4 @@
 use Rattle.verdict.specs.Promise.{figures}
-use borrow.Author.Rules.{rules}
 use Rattle.sheet.proofs.lines.with_word.Goals as goal
 
 pub returns-in-Fits : goal.returns-in-Fits

@@ -1,5 +1,4 @@
 use native.Mathlib.Omega.{arith}
-use borrow.Author.Rules.{rules}
 use Rattle.text.proofs.Numbers.{continues-true, continues-below}
 use Rattle.text.proofs.digits.extended.Goals as goal
 

@@ -1,6 +1,5 @@
 use native.Mathlib.Omega.{arith}
 use Rattle.text.proofs.Numbers.{digit-true}
-use borrow.Author.Rules.{rules}
 use Rattle.text.proofs.digits.worth.Goals as goal
 
 pub overflow_sub-result : goal.overflow_sub-result

@@ -1,8 +1,6 @@
-use mathlib.Core.Logic.{⊎_elim}
 use native.Mathlib.Omega.{arith}
 use Rattle.text.specs.English.{english}
 use Rattle.text.proofs.Phrases.{said, said-other}
-use borrow.Author.Rules.{rules}
 use Rattle.text.proofs.english.line.Goals as goal
 use Rattle.text.proofs.english.line.Goals.{in_default-via-then-number-lt1, in_default-via-else-number-lt1+else-number-lt6+else-number-lt12}
 
@@ -27,7 +25,7 @@ unfolding english
 returns-in_default c =
     let n = c.args.number in
     elim c.in_default.branch [
-      in_default-via-then-number-lt1 w ↦ said n 0 (omega arith) c.of-in_default.ensures
-    | in_default-via-else-number-lt1+else-number-lt6+else-number-lt12 w ↦
-      said-other n (omega arith) (λ e. omega arith) c.of-in_default.ensures
+      | in_default-via-then-number-lt1 w ↦ said n 0 (omega arith) c.of-in_default.ensures
+      | in_default-via-else-number-lt1+else-number-lt6+else-number-lt12 w ↦
+          said-other n (omega arith) (λ e. omega arith) c.of-in_default.ensures
     ]

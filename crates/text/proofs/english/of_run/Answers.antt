@@ -1,7 +1,6 @@
 use native.Mathlib.Omega.{arith}
 use Rattle.text.specs.English.{english}
 use Rattle.text.proofs.Phrases.{said}
-use borrow.Author.Rules.{rules}
 use Rattle.text.proofs.english.of_run.Goals as goal
 
 pub returns-in-6 : goal.returns-in-6

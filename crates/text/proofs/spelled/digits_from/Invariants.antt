@@ -1,11 +1,7 @@
-use mathlib.Core.Path.{◌≡◌, refl, sym, ap, ◌∙◌}
-use native.Mathlib.Omega.{arith}
-use borrow.Author.Tests.{not-true, not-false}
-use Prim.Native.Nat.{ℕ, ◌+◌, ◌-◌, ◌≤◌}
+use mathlib.Core.Path.{◌≡◌}
+use Prim.Native.Nat.{◌-◌, ◌≤◌}
 use lib.ListN.{length, drop}
 use Rattle.text.specs.Spelled.{digits_from}
-use Rattle.text.proofs.Spellings.{digits-stop, digits-on, digits-end}
-use borrow.Author.Rules.{rules}
 use Rattle.text.proofs.spelled.digits_from.Given as goal
 
 abbrev pub invariant-loop-i : goal.invariant-loop-i

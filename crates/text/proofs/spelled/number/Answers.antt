@@ -1,14 +1,11 @@
 use mathlib.Core.Bool.{Bool}
-use mathlib.Core.Path.{◌≡◌, sym, ap, ◌∙◌}
-use native.Mathlib.Omega.{arith}
+use mathlib.Core.Path.{sym, ap, ◌∙◌}
 use native.Mathlib.Nat.{pos_of_ne-zero}
-use borrow.Author.Tests.{not-true, not-false}
 use Prim.Native.Nat.{ℕ, ◌-◌}
 use lib.ListN.{get_or, drop}
 use Rattle.demand.specs.Tests.{pick}
 use Rattle.text.specs.Spelled.{digits_from}
 use Rattle.text.proofs.Spellings.{spelled-nothing, spelled-first}
-use borrow.Author.Rules.{rules}
 use Rattle.text.proofs.spelled.number.Goals as goal
 
 pub returns-then-bytes-eq0 : goal.returns-then-bytes-eq0

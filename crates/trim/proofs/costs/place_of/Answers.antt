@@ -1,6 +1,5 @@
 use mathlib.Core.Path.{refl}
 use native.Mathlib.Omega.{arith}
-use borrow.Author.Rules.{rules}
 use Rattle.trim.proofs.costs.place_of.Goals as goal
 
 pub overflow_mul-result : goal.overflow_mul-result

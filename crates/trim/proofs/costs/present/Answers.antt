@@ -1,6 +1,5 @@
 use mathlib.Core.Path.{refl}
 use Rattle.trim.specs.Costs.{cost_at}
-use borrow.Author.Rules.{rules}
 use Rattle.trim.proofs.costs.present.Goals as goal
 
 pub returns : goal.returns

@@ -1,10 +1,7 @@
-use mathlib.Core.Path.{◌≡◌, refl}
+use mathlib.Core.Path.{refl}
 use native.Mathlib.Omega.{arith}
-use Prim.Native.Nat.{◌-◌, ◌≤◌}
-use lib.ListN.{length, take, length-set}
-use Rattle.trim.specs.Inside.{numbers_most}
+use lib.ListN.{length-set}
 use Rattle.trim.proofs.Copies.{copy-turn, copy-with}
-use borrow.Author.Rules.{rules}
 use Rattle.trim.proofs.costs.with_cost.Goals as goal
 
 pub loop-i-init : goal.loop-i-init

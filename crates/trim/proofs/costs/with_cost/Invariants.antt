@@ -1,10 +1,7 @@
-use mathlib.Core.Path.{◌≡◌, refl}
-use native.Mathlib.Omega.{arith}
+use mathlib.Core.Path.{◌≡◌}
 use Prim.Native.Nat.{◌-◌, ◌≤◌}
-use lib.ListN.{length, take, length-set}
+use lib.ListN.{length, take}
 use Rattle.trim.specs.Inside.{numbers_most}
-use Rattle.trim.proofs.Copies.{copy-turn, copy-with}
-use borrow.Author.Rules.{rules}
 use Rattle.trim.proofs.costs.with_cost.Given as goal
 
 abbrev pub invariant-loop-i : goal.invariant-loop-i

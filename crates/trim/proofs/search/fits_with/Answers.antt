@@ -1,7 +1,6 @@
 use mathlib.Core.Path.{sym}
 use Rattle.trim.proofs.Lowered.{judged-by}
 use Rattle.trim.proofs.Repriced.{with-length, readable-with}
-use borrow.Author.Rules.{rules}
 use Rattle.trim.proofs.search.fits_with.Goals as goal
 
 pub slice_bounds-verdict-end : goal.slice_bounds-verdict-end

@@ -1,7 +1,5 @@
 use mathlib.Core.Path.{refl}
 use native.Mathlib.Omega.{arith}
-use Prim.Native.Nat.{◌-◌}
-use Rattle.trim.specs.Inside.{Between}
 use Rattle.trim.proofs.Halving.{search-start, turn_up, turn-down, search-end}
 use Rattle.trim.proofs.search.greatest.Goals as goal
 use Rattle.trim.proofs.search.greatest.Goals.{then-fits_with, else-fits_with}
@@ -23,8 +21,8 @@ loop-low-preserved c =
     let here = c.loop-low in
     let told = c.fits_with.ensures in
     elim c.if-fits_with.branch [
-      then-fits_with w ↦ turn_up _ _ _ _ _ _ _ here.invariant (omega arith) _ _ _ told w.if-fits_with.true w.low-is w.high-is
-    | else-fits_with w ↦ turn-down _ _ _ _ _ _ _ here.invariant (omega arith) _ _ _ told w.if-fits_with.false w.low-is w.high-is
+      | then-fits_with w ↦ turn_up _ _ _ _ _ _ _ here.invariant (omega arith) _ _ _ told w.if-fits_with.true w.low-is w.high-is
+      | else-fits_with w ↦ turn-down _ _ _ _ _ _ _ here.invariant (omega arith) _ _ _ told w.if-fits_with.false w.low-is w.high-is
     ]
 
 pub returns : goal.returns

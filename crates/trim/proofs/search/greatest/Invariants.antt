@@ -1,9 +1,5 @@
-use mathlib.Core.Logic.{⊎_elim}
-use mathlib.Core.Path.{refl}
-use native.Mathlib.Omega.{arith}
 use Prim.Native.Nat.{◌-◌}
 use Rattle.trim.specs.Inside.{Between}
-use Rattle.trim.proofs.Halving.{search-start, turn_up, turn-down, search-end}
 use Rattle.trim.proofs.search.greatest.Given as goal
 
 abbrev pub invariant-loop-low : goal.invariant-loop-low

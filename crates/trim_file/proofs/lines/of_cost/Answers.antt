@@ -1,4 +1,3 @@
-use borrow.Author.Rules.{rules}
 use Rattle.trim_file.proofs.Printed.{cost-written}
 use Rattle.trim_file.proofs.lines.of_cost.Goals as goal
 

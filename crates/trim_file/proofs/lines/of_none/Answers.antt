@@ -1,4 +1,3 @@
-use borrow.Author.Rules.{rules}
 use Rattle.trim_file.proofs.Printed.{none_written}
 use Rattle.trim_file.proofs.lines.of_none.Goals as goal
 

@@ -1,12 +1,7 @@
-use mathlib.Core.Path.{◌≡◌, refl, sym, ap, ◌∙◌}
-use native.Mathlib.Omega.{arith}
-use borrow.Author.Rules.{rules}
-use borrow.Author.Tests.{not-true, not-false}
-use Prim.Native.Nat.{ℕ, ◌+◌, ◌-◌, ◌≤◌, ◌<◌}
-use lib.ListN.{length, get_or, drop}
-use Rattle.text.proofs.Numbers.{continues-below}
+use mathlib.Core.Path.{◌≡◌}
+use Prim.Native.Nat.{◌-◌, ◌≤◌, ◌<◌}
+use lib.ListN.{length, drop}
 use Rattle.trim_file.specs.Names.{row_limit, digits_from}
-use Rattle.trim_file.proofs.Named.{digits-stop, digits-on, digits-end}
 use Rattle.trim_file.proofs.names.digits_from.Given as goal
 
 -- What is still to be read says what the whole does.

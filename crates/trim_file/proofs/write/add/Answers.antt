@@ -1,4 +1,3 @@
-use borrow.Author.Rules.{rules}
 use Rattle.trim_file.specs.Inside.{added}
 use Rattle.trim_file.proofs.write.add.Goals as goal
 

@@ -1,5 +1,4 @@
 use native.Mathlib.Omega.{arith}
-use borrow.Author.Rules.{rules}
 use Rattle.trim_file.proofs.Written.{alone-is}
 use Rattle.trim_file.proofs.write.lines_alone.Goals as goal
 

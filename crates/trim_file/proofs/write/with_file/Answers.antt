@@ -1,16 +1,12 @@
-use mathlib.Core.List.{List, []}
-use mathlib.Core.Path.{◌≡◌, refl, sym, ap, ◌∙◌}
+use mathlib.Core.Path.{◌≡◌, ap}
 use native.Mathlib.Omega.{arith}
-use borrow.Author.Rules.{rules}
 use Prim.Native.Nat.{ℕ, ◌+◌}
 use lib.ListN.{length}
 use Rattle.text.specs.Numbers.{decimal}
 use Rattle.text.specs.declared.Text.{Text}
-use Rattle.trim_file.specs.Inside.{added, written}
 use Rattle.trim_file.specs.Printed.{cost_lines}
-use Rattle.trim_file.specs.declared.write.Sheet.{Sheet}
 use Rattle.trim_file.proofs.Printed.{cost-most}
-use Rattle.trim_file.proofs.Written.{text-bytes, text-short, number-text, bare-written, lines-written, file-is}
+use Rattle.trim_file.proofs.Written.{text-short, number-text, lines-written, file-is}
 use Rattle.trim_file.proofs.write.with_file.Goals as goal
 
 pub overflow_add-behind : goal.overflow_add-behind

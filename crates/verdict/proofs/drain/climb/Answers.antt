@@ -1,7 +1,6 @@
 use mathlib.Core.Path.{◌∙◌}
 use native.Mathlib.Omega.{arith}
-use Prim.Native.Nat.{◌-◌}
-use Rattle.verdict.proofs.Inside.Drain.{Climbing, climb-start, climb-far, climb-can, climb-turn, climb-up, climb-drained}
+use Rattle.verdict.proofs.Inside.Drain.{climb-start, climb-far, climb-can, climb-turn, climb-up, climb-drained}
 use Rattle.verdict.proofs.drain.climb.Goals as goal
 
 pub loop-s-init : goal.loop-s-init

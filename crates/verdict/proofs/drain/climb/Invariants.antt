@@ -1,7 +1,5 @@
-use mathlib.Core.Path.{◌∙◌}
-use native.Mathlib.Omega.{arith}
 use Prim.Native.Nat.{◌-◌}
-use Rattle.verdict.proofs.Inside.Drain.{Climbing, climb-start, climb-far, climb-can, climb-turn, climb-up, climb-drained}
+use Rattle.verdict.proofs.Inside.Drain.{Climbing}
 use Rattle.verdict.proofs.drain.climb.Given as goal
 
 abbrev pub invariant-loop-s : goal.invariant-loop-s

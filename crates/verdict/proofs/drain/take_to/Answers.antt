@@ -1,4 +1,3 @@
-use mathlib.Core.Path.{◌∙◌}
 use Rattle.verdict.proofs.Inside.Drain.{tasks-can, handlers-can, taken-both}
 use Rattle.verdict.proofs.drain.take_to.Goals as goal
 

@@ -1,13 +1,10 @@
 use mathlib.Core.Path.{sym}
-use lib.ListN.{length}
 use native.Mathlib.Omega.{arith}
 use Rattle.demand.specs.Rows.{handlers_of}
 use Rattle.demand.specs.declared.table.Kind.TheVariants.{Handler}
 use Rattle.demand.proofs.Inside.Slices.{part-shorter, total-short, total_head, small-part}
 use Rattle.verdict.specs.Loads.{costs}
 use Rattle.verdict.proofs.Loads.{costs-most}
-use Prim.Native.Nat.{ℕ, ◌<◌}
-use Rattle.verdict.proofs.load.+costs.{statement}
 use Rattle.verdict.proofs.load.+costs.Goals as goal
 
 pub returns-then-handlers-own : goal.returns-then-handlers-own

@@ -1,12 +1,9 @@
 use mathlib.Core.Path.{sym}
-use lib.ListN.{length}
 use native.Mathlib.Omega.{arith}
 use Rattle.demand.specs.Rows.{rows_of}
 use Rattle.demand.proofs.Inside.Slices.{part-shorter, total-short, total_head, fair-head, small-part}
 use Rattle.verdict.specs.Loads.{work_by, work}
 use Rattle.verdict.proofs.Loads.{work-by-most, work-most}
-use Prim.Native.Nat.{ℕ, ◌<◌}
-use Rattle.verdict.proofs.load.+work.{statement}
 use Rattle.verdict.proofs.load.+work.Goals as goal
 
 pub returns-then-s-own : goal.returns-then-s-own

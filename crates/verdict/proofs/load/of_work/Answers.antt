@@ -3,7 +3,6 @@ use native.Mathlib.Nat.{div-le_of_le-mul, div-le_self, mod-lt, mul_comm}
 use native.Mathlib.Omega.{arith}
 use Prim.Native.Nat.{ℕ, ◌+◌, ◌-◌, ◌*◌, ◌/◌, ◌%◌, ◌≤◌}
 use Rattle.verdict.proofs.Loads.{millionths-split}
-use borrow.Author.Rules.{rules}
 use Rattle.verdict.proofs.load.of_work.Goals as goal
 
 -- W is at most 128,000,000 a tick.

@@ -3,7 +3,6 @@ use borrow.Author.Tests.{lt-ltb, le-ltb}
 use native.Mathlib.Nat.{zero-div}
 use Prim.Native.Nat.{◌-◌}
 use Rattle.verdict.specs.Inside.Search.{end_by}
-use borrow.Author.Rules.{rules}
 use Rattle.verdict.proofs.search.end_of.Goals as goal
 
 pub returns-then-h-w : goal.returns-then-h-w

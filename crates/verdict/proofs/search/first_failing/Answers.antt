@@ -1,6 +1,5 @@
 use Rattle.demand.specs.declared.events.Event.TheVariants.{Arrival, Deadline}
 use Rattle.verdict.proofs.Inside.Search.{tasks-room, handlers-room, lent-begun}
-use borrow.Author.Rules.{rules}
 use Rattle.verdict.proofs.search.first_failing.Goals as goal
 
 pub begin-i-requires : goal.begin-i-requires

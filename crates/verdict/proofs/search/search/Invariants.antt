@@ -1,16 +1,10 @@
-use mathlib.Core.Path.{◌≡◌, refl, ◌∙◌}
-use native.Mathlib.Omega.{arith}
+use mathlib.Core.Path.{◌≡◌}
 use Prim.Native.Nat.{◌-◌, ◌≤◌}
 use lib.ListN.{length}
-use Rattle.walk.specs.Queue.{head, next}
-use Rattle.demand.specs.Limits.{ticks_most}
 use Rattle.demand.specs.Rows.{tasks_of, handlers_of}
 use Rattle.demand.specs.Tests.{pick}
-use Rattle.demand.proofs.Refusals.{refusal-in-range}
 use Rattle.verdict.specs.Inside.Drain.{Looking}
-use Rattle.verdict.specs.Inside.Search.{FoundSays, Searched}
-use Rattle.verdict.proofs.Inside.Drain.{first-can, look-start, look-above, look-can, look-on, look-idle}
-use Rattle.verdict.proofs.Inside.Search.{searched-start, next-above, passes-out, passes-drained, sight-most, sight-none, sight-low, count_most, search-level, search-can, search-fits, search-found, search-on}
+use Rattle.verdict.specs.Inside.Search.{Searched}
 use Rattle.verdict.proofs.search.search.Given as goal
 
 abbrev pub invariant-loop-t : goal.invariant-loop-t
