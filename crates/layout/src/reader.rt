@@ -20,7 +20,7 @@ const ROWS_MOST: usize = 408;
 const FLAT_MOST: usize = 3 * ROWS_MOST;
 
 // A flat list of rows, two or three numbers each, and zeros behind.
-#[derive(Drop)]
+#[derive(Clone, Copy)]
 pub struct Flat {
     pub numbers: [u32; FLAT_MOST],
     pub len: usize,
