@@ -11,7 +11,7 @@ ghost use Rattle.advance.specs.Stretch.{advance_of};
 use scheduler::{Answer, Ran, Run};
 
 // The run after a piece, who got each of its ticks, how many they are, and the number of the refusal where a step is refused at once.
-#[derive(Drop)]
+#[derive(Clone, Copy)]
 pub struct Piece {
     pub run: Run,
     pub ran: Ran,
@@ -20,7 +20,7 @@ pub struct Piece {
 }
 
 // The run after a stretch, how many of its ticks were run, and the number of the refusal that ended it, 0 where all were.
-#[derive(Drop)]
+#[derive(Clone, Copy)]
 pub struct Advanced {
     pub run: Run,
     pub ticks: u64,

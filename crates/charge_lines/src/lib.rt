@@ -18,7 +18,7 @@ pub const NAME_MOST: usize = 4095;
 pub const LINE_MOST: usize = 8416;
 
 // A line, and zeros behind.
-#[derive(Drop)]
+#[derive(Clone, Copy)]
 pub struct Line {
     pub bytes: [u8; LINE_MOST],
     pub len: usize,

@@ -9,14 +9,14 @@ use demand::table;
 use demand::table::{HANDLER_NUMBERS, Kind, TASK_NUMBERS};
 
 // A list in row order, and zeros behind.
-#[derive(Drop)]
+#[derive(Clone, Copy)]
 pub struct Flat {
     pub numbers: [u32; TASK_NUMBERS],
     pub len: usize,
 }
 
 // A table in row order; or the word that its counts alone refuse it, and no list.
-#[derive(Drop)]
+#[derive(Clone, Copy)]
 pub struct Table {
     pub held: bool,
     pub tasks: Flat,

@@ -16,7 +16,7 @@ pub const FILE_MOST: usize = 4096;
 pub const PAGE_MOST: usize = 1024;
 
 // What is written: so many bytes of the page, and the number of the refusal, 0 for none.
-#[derive(Drop)]
+#[derive(Clone, Copy)]
 pub struct Output {
     pub len: usize,
     pub refusal: u32,

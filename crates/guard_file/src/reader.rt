@@ -21,7 +21,7 @@ const NUMBER_MOST: u64 = 4_294_967_295;
 
 // What a file says: how many guards, 9 for more than 8; the rows of the first of them; the first refusal among these and its place. Or
 // that it breaks the layout.
-#[derive(Drop)]
+#[derive(Clone, Copy)]
 pub struct Sheet {
     pub ok: bool,
     pub count: usize,

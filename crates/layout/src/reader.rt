@@ -27,7 +27,7 @@ pub struct Flat {
 }
 
 // What a file says, and whether a handler has a deadline in it; or that it breaks the layout.
-#[derive(Drop)]
+#[derive(Clone, Copy)]
 pub struct Table {
     pub ok: bool,
     pub misplaced: bool,

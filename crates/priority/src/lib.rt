@@ -20,7 +20,7 @@ pub enum Answer {
 }
 
 // The least length of each task beside the answer: 0 where there is none, past the last task and beside a refusal.
-#[derive(Drop)]
+#[derive(Clone, Copy)]
 pub struct Profile {
     pub answer: Answer,
     pub least: [u64; TASKS_MOST],

@@ -18,7 +18,7 @@ use priority::{Answer, Profile};
 pub const PAGE_MOST: usize = 5120;
 
 // What is written: so many bytes of the page, and the number of the refusal, 0 for none.
-#[derive(Drop)]
+#[derive(Clone, Copy)]
 pub struct Output {
     pub len: usize,
     pub refusal: u32,

@@ -16,7 +16,7 @@ const SEGMENTS_MOST: usize = 2048;
 pub const NUMBERS: usize = 4 * SEGMENTS_MOST;
 
 // What a file says, as segments: four numbers each, zeros behind, and how many numbers there are. Or that it breaks the layout.
-#[derive(Drop)]
+#[derive(Clone, Copy)]
 pub struct Schedule {
     pub ok: bool,
     pub len: usize,

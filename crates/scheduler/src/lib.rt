@@ -58,7 +58,7 @@ pub enum Answer {
 }
 
 // The next run beside the answer.
-#[derive(Drop)]
+#[derive(Clone, Copy)]
 pub struct Stepped {
     pub run: Run,
     pub answer: Answer,
@@ -72,7 +72,7 @@ pub enum Start {
 }
 
 // A fresh run beside the answer.
-#[derive(Drop)]
+#[derive(Clone, Copy)]
 pub struct Fresh {
     pub run: Run,
     pub answer: Start,

@@ -12,7 +12,7 @@ use text::Text;
 use verdict::Answer;
 
 // What is written: the two lines, and the number of the refusal, 0 for none.
-#[derive(Drop)]
+#[derive(Clone, Copy)]
 pub struct Output {
     pub text: Text,
     pub refusal: u32,

@@ -13,7 +13,7 @@ ghost use Rattle.text.specs.Text.{blank_text, put_of, puts_of};
 pub const TEXT_MOST: usize = 224;
 
 // A text, and zeros behind.
-#[derive(Drop)]
+#[derive(Clone, Copy)]
 pub struct Text {
     pub bytes: [u8; TEXT_MOST],
     pub len: usize,

@@ -18,7 +18,7 @@ pub const PAGE_MOST: usize = 4352;
 
 // What is written: the bytes up to `lines` are printed, those behind them up to `len` are the new file; and the number of the refusal, 0
 // for none.
-#[derive(Drop)]
+#[derive(Clone, Copy)]
 pub struct Output {
     pub bytes: [u8; PAGE_MOST],
     pub lines: usize,

@@ -10,7 +10,7 @@ use crate::{Output, PAGE_MOST, lines};
 use text::Text;
 
 // A page, and how much of it is written.
-#[derive(Drop)]
+#[derive(Clone, Copy)]
 pub struct Sheet {
     pub bytes: [u8; PAGE_MOST],
     pub len: usize,
