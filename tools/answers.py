@@ -156,7 +156,7 @@ def convert(crate, path, fn, d):
             left.append(b)
             continue
         lines = b.split("\n")
-        mu = re.match(r"(?:abbrev )?μ-(\S+) : Measures", b.split("unfolding")[0].strip().split("\n")[-1] if False else next((l for l in lines if "Measures" in l), ""))
+        mu = re.match(r"(?:abbrev )?μ-(\S+) : Measures", next((l for l in lines if "Measures" in l), ""))
         if mu:
             ps = next((v for k in d for f, v in k["params"].items() if f.split("::")[-1].replace("_", "-") == mu.group(1)), [])
             fn_name = next((f.split("::")[-1] for k in d for f, v in k["params"].items() if f.split("::")[-1].replace("_", "-") == mu.group(1)), mu.group(1))
