@@ -8,6 +8,7 @@ pub mod Periods
 pub mod Lighter
 pub mod Chains
 pub mod Refusals
+pub mod Numbered
 pub mod Signs
 pub mod Answers
 pub mod Inside

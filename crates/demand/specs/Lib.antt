@@ -11,6 +11,8 @@ pub mod Multiples
 pub mod Demands
 -- f over whole periods of the handlers (M-102)
 pub mod Wholes
+-- refusals and their numbers
+pub mod Numbered
 -- refusals 1, 2, 3, 13 and 5
 pub mod Refusals
 -- what the public calls answer

@@ -1,10 +1,48 @@
-// Refusals 1, 2, 3, 13 and 5: the first that applies, in this order, 0 where none does.
+// Refusals, each with its number, and the first of a table or of a question about one: 1, 2, 3, 13 and 5, in this order.
 ghost use Rattle.std.specs.Prelude.{◌≡◌};
+ghost use Rattle.demand.specs.Numbered.{number_of, refused};
 ghost use Rattle.demand.specs.Refusals.{uneven, miscounted, row_outside, deadline_outside, table_refusal, asked_refusal};
 ghost use Rattle.demand.specs.Rows.{rows_of, tasks_of, handlers_of, some};
 
 use crate::table;
 use crate::table::{HANDLERS_MOST, Kind, TASKS_MOST, TICKS_MOST};
+
+// Why a call has no answer.
+#[derive(Clone, Copy, Debug, PartialEq, Eq)]
+pub enum Refusal {
+    // Of a table,
+    Uneven = 1,
+    Miscounted = 2,
+    RowOutOfRange = 3,
+    MultipleTooLarge = 4,
+    // of a question about it,
+    IntervalTooLong = 5,
+    // of a run and a step of it,
+    RunOutOfBounds = 6,
+    RunOver = 7,
+    ClockAtEnd = 8,
+    ArrivalsMiscounted = 9,
+    ArrivalEarly = 10,
+    ArrivalHeavy = 11,
+    // of a file,
+    FileMalformed = 12,
+    // and of later calls.
+    DeadlineOutOfRange = 13,
+    BurstOutOfRange = 14,
+    SegmentsUnreadable = 16,
+    SpanOutOfRange = 17,
+    NoSuchTask = 18,
+    QuantumOutOfRange = 19,
+}
+
+impl Refusal {
+    // Its number, as it is printed.
+    pub fn number(self) -> u32
+        ensures { result ≡ number_of self }
+    {
+        self as u32
+    }
+}
 
 fn uneven(kind: Kind, s: &[u32]) -> bool
     ensures { result ≡ uneven kind s.now }
