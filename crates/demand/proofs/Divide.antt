@@ -8,6 +8,8 @@ use native.Mathlib.Nat.{div-zero, div-mul-le_self, le-div_iff_mul-le, div-lt_iff
 use native.Mathlib.Omega.{arith}
 use borrow.Author.Tests.{le-ltb, lt-ltb}
 use Prim.Native.Nat.{ℕ, zero, suc, ◌+◌, ◌-◌, ◌*◌, ◌/◌, ◌≤◌, ◌<◌}
+use Rattle.std.specs.Int.{div_ceil}
+use Rattle.std.proofs.lemmas.Grind.{div_ceil_times}
 use Rattle.walk.specs.Queue.{events}
 use Rattle.walk.proofs.Queue.{events-none}
 use Rattle.demand.specs.Demands.{ceil, within}
@@ -169,3 +171,10 @@ jobs-next l d p pos h none = go (le-or-lt (d + jobs l d p * p) (suc l))
     go : (d + jobs l d p * p ≤ suc l) ⊎ (suc l < d + jobs l d p * p) → jobs (suc l) d p ≡ jobs l d p
     go (inl m) = absurd (none (jobs l d p) (omega (arith, jobs-above l d p pos h)))
     go (inr m) = jobs-until l (suc l) d p h (omega arith) m
+
+-- The quotient rounded up, as the library has it.
+pub div_ceil-ceil : (x a : ℕ) → 0 < a → div_ceil x a ≡ ceil x a
+div_ceil-ceil x a p =
+    let q : ℕ = div_ceil x a in
+    let times = div_ceil_times x a p in
+    sym (div-eq_of_lt-le {k = q} a (omega (arith, times.1)) (omega (arith, times.0)))

@@ -1,18 +1,19 @@
--- Laws of the least common multiple of rows' periods (specs/Multiples), and how the code builds it: row by row, capped at the limit.
+-- Laws of the least common multiple of rows' periods (specs/Multiples), and how the code builds it: row by row, up to the limit.
 use mathlib.Core.Bool.{Bool, true, false}
 use mathlib.Core.List.{List, [], ◌∷◌}
-use mathlib.Core.Path.{◌≡◌, refl, ◌∙◌}
+use mathlib.Core.Path.{◌≡◌, refl, ap, ◌∙◌}
 use native.Mathlib.Nat.{dvd_refl, dvd_trans, le_of_dvd, mul-le-mul, div-le_self, le_trans}
 use native.Mathlib.Omega.{arith}
 use borrow.Author.Tests.{lt-ltb, le-ltb, ltb-true, ltb-false}
 use lib.Dec.{ltb}
 use lib.ListN.{length}
 use Prim.Native.Nat.{ℕ, ◌*◌, ◌/◌, ◌≤◌, ◌<◌, ◌∣◌}
+use Rattle.std.specs.Prelude.{Option, None, Some, unwrap_or}
 use Rattle.euclid.specs.Euclid.{gcd, lcm}
 use Rattle.euclid.proofs.Divisors.{lcm-left, lcm-right, lcm-least, lcm-positive}
 use Rattle.demand.specs.Inside.Sizes.{row_most}
 use Rattle.demand.specs.Limits.{figure_most, ticks_most}
-use Rattle.demand.specs.Multiples.{lcm_from, capped, Divided}
+use Rattle.demand.specs.Multiples.{lcm_from, limited, Divided}
 use Rattle.demand.specs.Refusals.{FairRow}
 use Rattle.demand.specs.Rows.{Row, rows_of, width, Each, Positive, rest}
 use Rattle.demand.specs.Tests.{pick}
@@ -58,12 +59,12 @@ lcm-from-le a rs pos all = le_of_dvd (lcm-from-positive a rs pos all) (lcm-from-
 -- ---- as the code builds it
 
 module _ (kind : Kind) (s : List ℕ) (h : length s < width kind) where
-  pub lcm-short : (a : ℕ) → a ≤ ticks_most → a ≡ capped (lcm_from a (rows_of kind s))
+  pub lcm-short : (a : ℕ) → a ≤ ticks_most → Some a ≡ limited (lcm_from a (rows_of kind s))
   lcm-short a most = rw (rows_short kind s h, lcm-from-nil a, le-ltb ticks_most a most)
 
 module _ (kind : Kind) (s : List ℕ) (r : Row) (e : rows_of kind s ≡ r ∷ rows_of kind (rest kind s)) where
   -- A partial multiple above the limit: the whole is too.
-  pub lcm-over : (a : ℕ) → 0 < a → Each FairRow (rows_of kind s) → ticks_most < lcm a r.period → 0 ≡ capped (lcm_from a (rows_of kind s))
+  pub lcm-over : (a : ℕ) → 0 < a → Each FairRow (rows_of kind s) → ticks_most < lcm a r.period → None ≡ limited (lcm_from a (rows_of kind s))
   lcm-over a pos fair over =
       let f = each-head kind s r e (width kind) refl FairRow fair in
       let whole : lcm a r.period ≤ lcm_from (lcm a r.period) (rows_of kind (rest kind s)) =
@@ -71,7 +72,8 @@ module _ (kind : Kind) (s : List ℕ) (r : Row) (e : rows_of kind s ≡ r ∷ ro
       rw (e, lcm-from-cons a r (rows_of kind (rest kind s)), lt-ltb ticks_most (lcm_from (lcm a r.period) (rows_of kind (rest kind s))) (omega arith))
 
   -- Else it is that of the multiple so far and the rest, of which the code has the width n of a row in hand.
-  pub lcm-head : (n : ℕ) → n ≡ width kind → (a b x : ℕ) → b ≡ lcm a r.period → x ≡ capped (lcm_from b (rows_of kind (from n s))) → x ≡ capped (lcm_from a (rows_of kind s))
+  pub lcm-head : (n : ℕ) → n ≡ width kind → (a b : ℕ) (x : Option ℕ) → b ≡ lcm a r.period → x ≡ limited (lcm_from b (rows_of kind (from n s)))
+      → x ≡ limited (lcm_from a (rows_of kind s))
   lcm-head n w a b x eb q = q ∙ rw (e, lcm-from-cons a r (rows_of kind (rest kind s)), eb, from-width kind s n w)
 
 -- The partial multiple, as the code makes it: by the divisor in hand. It fits a word.
@@ -82,17 +84,17 @@ lcm-read a g p e = rw e
 pub lcm-fits : (a g p : ℕ) → a ≤ ticks_most → p ≤ figure_most → a / g * p ≤ row_most
 lcm-fits a g p ha hp = mul-le-mul (le_trans (div-le_self a g) ha) hp
 
--- What a capped multiple says.
-pub capped-zero : (m : ℕ) → 0 < m → 0 ≡ capped m → ticks_most < m
-capped-zero m pos e = go (ltb ticks_most m) refl e
+-- What a limited multiple says.
+pub limited-none : (m : ℕ) → None ≡ limited m → ticks_most < m
+limited-none m e = go (ltb ticks_most m) refl e
   where
-    go : (b : Bool) → ltb ticks_most m ≡ b → 0 ≡ pick b 0 m → ticks_most < m
+    go : (b : Bool) → ltb ticks_most m ≡ b → None ≡ pick b None (Some m) → ticks_most < m
     go true t q = ltb-true ticks_most m t
-    go false t q = absurd (omega arith)
+    go false t q = absurd cc
 
-pub capped-some : (m r : ℕ) → 0 < r → r ≡ capped m → (r ≡ m) × (m ≤ ticks_most)
-capped-some m r pos e = go (ltb ticks_most m) refl e
+pub limited-some : (m r : ℕ) → Some r ≡ limited m → (r ≡ m) × (m ≤ ticks_most)
+limited-some m r e = go (ltb ticks_most m) refl e
   where
-    go : (b : Bool) → ltb ticks_most m ≡ b → r ≡ pick b 0 m → (r ≡ m) × (m ≤ ticks_most)
-    go true t q = absurd (omega arith)
-    go false t q = (q, ltb-false ticks_most m t)
+    go : (b : Bool) → ltb ticks_most m ≡ b → Some r ≡ pick b None (Some m) → (r ≡ m) × (m ≤ ticks_most)
+    go true t q = absurd cc
+    go false t q = (ap (λ o. unwrap_or o 0) q, ltb-false ticks_most m t)

@@ -1,21 +1,18 @@
 -- f over whole periods (specs/Wholes): with P a common multiple of the handlers' periods, f at any length follows from f within one P.
 use mathlib.Core.List.{List, [], ◌∷◌}
-use mathlib.Core.Bool.{false, ◌||◌}
 use mathlib.Core.Path.{◌≡◌, ap, sym, subst, ◌∙◌}
-use native.Mathlib.Nat.{pos_of_ne-zero, add-zero, add-suc, mul-add, mul-le-mul_left, le_of_mul-le-mul_left, div-mul_cancel, div-add-mod', add-mul-div_right}
+use native.Mathlib.Nat.{add-zero, add-suc, mul-add, mul-le-mul_left, le_of_mul-le-mul_left, div-mul_cancel, div-add-mod', add-mul-div_right}
 use native.Mathlib.Omega.{arith}
-use borrow.Author.Tests.{eqb-false, ltb-false}
 use lib.Arith.{digits_div}
-use lib.Dec.{eqb, ltb}
 use Prim.Native.Nat.{ℕ, zero, suc, ◌+◌, ◌-◌, ◌*◌, ◌/◌, ◌%◌, ◌≤◌, ◌<◌, ◌∣◌}
+use Rattle.std.specs.Prelude.{Some}
 use Rattle.demand.specs.Demands.{ceil, called, handled}
-use Rattle.demand.specs.Multiples.{capped, Divided}
+use Rattle.demand.specs.Multiples.{limited, Divided}
 use Rattle.demand.specs.Rows.{Row, Positive}
 use Rattle.demand.specs.Wholes.{own_period, TakesAll, CountsWholes}
 use Rattle.demand.proofs.Demands.{called-nil, called-cons, handled-zero, handled-taken, handled-next, handled-le-called, handled-attained}
 use Rattle.demand.proofs.Divide.{le-ceil-mul}
-use Rattle.demand.proofs.Periods.{lcm-from-positive, lcm-from-rows, capped-some}
-use Rattle.demand.proofs.Refusals.{neither}
+use Rattle.demand.proofs.Periods.{lcm-from-positive, lcm-from-rows, limited-some}
 use Rattle.demand.proofs.Taken.{Attained}
 
 -- ---- one row
@@ -113,13 +110,12 @@ module _ (hs : List Row) (ph : Positive hs) where
 
   -- ---- as the code has it: the period and the work in it in hand
 
-  module _ (own l : ℕ) (period : own ≡ capped (own_period hs)) (short : (eqb own 0 || ltb l own) ≡ false) where
+  module _ (own l : ℕ) (period : Some own ≡ limited (own_period hs)) (short : own ≤ l) where
     -- A period that is there and no longer than l is the handlers' own.
     pub own_read : (own ≡ own_period hs) × (0 < own) × (own ≤ l)
     own_read =
-        let tests = neither (eqb own 0) (ltb l own) short in
-        let some : 0 < own = pos_of_ne-zero (eqb-false own 0 tests.0) in
-        ((capped-some (own_period hs) own some period).0, some, ltb-false l own tests.1)
+        let read : own ≡ own_period hs = (limited-some (own_period hs) own period).0 in
+        (read, omega (arith, read, own-positive), short)
 
     module _ (work : ℕ) (called_is : work ≡ called hs own) where
       pub all_read : own ≤ work → l ≡ handled hs l

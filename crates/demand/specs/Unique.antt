@@ -1,17 +1,17 @@
 -- A promise allows one answer (01, "How much each statement must say").
 --   DemandUnique, HandlerUnique, MarginUnique   two answers that a promise allows are equal
-use Rattle.std.specs.Prelude.{List, ◌≡◌, ℕ}
+use Rattle.std.specs.Prelude.{List, ◌≡◌, ℕ, Result}
 use Rattle.demand.specs.Answers.{DemandSays, HandlerSays, MarginSays}
 use Rattle.demand.specs.Rows.{Row}
-use Rattle.demand.specs.declared.DemandAnswer.{DemandAnswer}
-use Rattle.demand.specs.declared.HandlerAnswer.{HandlerAnswer}
-use Rattle.demand.specs.declared.MarginAnswer.{MarginAnswer}
+use Rattle.demand.specs.declared.Share.{Share}
+use Rattle.demand.specs.declared.Spare.{Spare}
+use Rattle.demand.specs.declared.refusal.Refusal.{Refusal}
 
 abbrev pub DemandUnique : Type 0
-DemandUnique = (k n : ℕ) (r s : DemandAnswer) → DemandSays k n r → DemandSays k n s → r ≡ s
+DemandUnique = (k n : ℕ) (r s : Result ℕ Refusal) → DemandSays k n r → DemandSays k n s → r ≡ s
 
 abbrev pub HandlerUnique : Type 0
-HandlerUnique = (k : ℕ) (hs : List Row) (l : ℕ) (r s : HandlerAnswer) → HandlerSays k hs l r → HandlerSays k hs l s → r ≡ s
+HandlerUnique = (k : ℕ) (hs : List Row) (l : ℕ) (r s : Result Share Refusal) → HandlerSays k hs l r → HandlerSays k hs l s → r ≡ s
 
 abbrev pub MarginUnique : Type 0
-MarginUnique = (k : ℕ) (ts hs : List Row) (l : ℕ) (r s : MarginAnswer) → MarginSays k ts hs l r → MarginSays k ts hs l s → r ≡ s
+MarginUnique = (k : ℕ) (ts hs : List Row) (l : ℕ) (r s : Result Spare Refusal) → MarginSays k ts hs l r → MarginSays k ts hs l s → r ≡ s

@@ -1,8 +1,10 @@
 // f along the arrivals of handlers: between two of them it grows by a formula.
-ghost use Rattle.std.specs.Prelude.{◌≡◌, ◌≤◌, min, length};
+ghost use Rattle.std.specs.Prelude.{◌≡◌, ◌≤◌, length};
 ghost use Rattle.demand.specs.Inside.Arrivals.{outset, waited, Level, Come};
 ghost use Rattle.demand.specs.Inside.Sizes.{due_most};
 ghost use Rattle.demand.specs.Limits.{ticks_most};
+
+use walk::Entry;
 
 // How far handlers have come: at `at`, so many ticks taken of the work called for.
 #[derive(Clone, Copy)]
@@ -23,12 +25,6 @@ pub fn start() -> Progress
     }
 }
 
-fn lesser(a: u64, b: u64) -> u64
-    ensures { result ≡ min a b }
-{
-    if a < b { a } else { b }
-}
-
 // At m, where nothing arrives up to m: a tick is taken for each, up to all the work called for.
 fn wait(p: Progress, m: u64) -> Progress
     requires { (p.at ≤ m) × (m ≤ ticks_most) × (p.taken ≤ due_most) }
@@ -36,35 +32,30 @@ fn wait(p: Progress, m: u64) -> Progress
 {
     Progress {
         at: m,
-        taken: lesser(p.taken + (m - p.at), p.called),
+        taken: (p.taken + (m - p.at)).min(p.called),
         called: p.called,
     }
 }
 
 // At m, from one arrival to the next.
-fn along(q: &mut [[u64; 3]], p: Progress, m: u64) -> Progress
+fn along(q: &mut [Entry], p: Progress, m: u64) -> Progress
     requires { Level q.old p m × (1 ≤ length q.old) }
     ensures { Come q.old p m q.new result }
 {
     let mut w = p;
-    while q[0][0] <= m {
-        let before = wait(w, q[0][0] - 1);
-        let called = walk::take(q, before.called);
-        w = Progress {
-            at: before.at,
-            taken: before.taken,
-            called,
-        };
+    while q[0].next <= m {
+        w = wait(w, q[0].next - 1);
+        w.called = walk::take(q, w.called);
     }
     wait(w, m)
 }
 
 // At m, by the arrivals q that are still to come.
-pub fn to(q: &mut [[u64; 3]], p: Progress, m: u64) -> Progress
+pub fn to(q: &mut [Entry], p: Progress, m: u64) -> Progress
     requires { Level q.old p m }
     ensures { Come q.old p m q.new result }
 {
-    if q.len() == 0 {
+    if q.is_empty() {
         return wait(p, m);
     }
     along(q, p, m)

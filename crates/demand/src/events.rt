@@ -5,6 +5,7 @@ ghost use Rattle.demand.specs.Rows.{rows_of};
 
 use crate::table;
 use crate::table::Kind;
+use walk::Entry;
 
 // What brings a row's work: its arrivals, the first of which counts from the first tick on, or its deadlines.
 #[derive(Clone, Copy)]
@@ -24,17 +25,22 @@ fn first(event: Event, deadline: u64) -> u64
 }
 
 // Puts the events of the rows of s in order into the last places of q; the answer is where they start.
-pub fn begin(kind: Kind, event: Event, s: &[u32], q: &mut [[u64; 3]]) -> usize
+pub fn begin(kind: Kind, event: Event, s: &[u32], q: &mut [Entry]) -> usize
     requires { Placeable (rows_of kind s.now) (length q.old) }
     ensures { (result ≤ length q.old) × Begun event (rows_of kind s.now) (drop result q.new) }
 {
     let step = table::width(kind);
     let mut k = q.len();
-    let mut i = 0;
-    while i + step <= s.len() {
-        let row = table::head(kind, &s[i..]);
-        k = walk::add(q, k, [first(event, row.deadline), row.cost, row.period]);
-        i += step;
+    let mut rest = s;
+    while step <= rest.len() {
+        let row = table::head(kind, rest);
+        let entry = Entry {
+            next: first(event, row.deadline),
+            cost: row.cost,
+            period: row.period,
+        };
+        k = walk::add(q, k, entry);
+        rest = &rest[step..];
     }
     k
 }

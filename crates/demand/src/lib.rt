@@ -18,75 +18,56 @@ ghost use Rattle.demand.specs.Refusals.{asked_refusal};
 ghost use Rattle.demand.specs.Rows.{tasks_of, handlers_of};
 
 use events::Event;
+use refusal::Refusal;
 use table::{HANDLERS_MOST, Kind};
+use walk::Entry;
 
-// A figure in ticks, or the number of the refusal.
-#[derive(Clone, Copy)]
-pub enum DemandAnswer {
-    Ticks { ticks: u64 },
-    Refused { number: u32 },
+// The ticks that handlers take, and the work that they leave over.
+#[derive(Clone, Copy, Debug, PartialEq, Eq)]
+pub struct Share {
+    pub ticks: u64,
+    pub left: u64,
 }
 
-// The ticks that handlers take with the work that they leave over, or the number of the refusal.
-#[derive(Clone, Copy)]
-pub enum HandlerAnswer {
-    Ticks { ticks: u64, left: u64 },
-    Refused { number: u32 },
-}
-
-// A signed figure in ticks with the work that handlers leave over, or the number of the refusal.
-#[derive(Clone, Copy)]
-pub enum MarginAnswer {
-    Ticks { ticks: i64, left: u64 },
-    Refused { number: u32 },
+// What both demands leave of an interval, below 0 where it fails, and the work that handlers leave over.
+#[derive(Clone, Copy, Debug, PartialEq, Eq)]
+pub struct Spare {
+    pub ticks: i64,
+    pub left: u64,
 }
 
 // Handler demand f at l: the ticks of an interval of l that handlers take, and the work that they leave over.
-pub fn handler_demand(tasks: &[u32], handlers: &[u32], l: u64) -> HandlerAnswer
+pub fn handler_demand(tasks: &[u32], handlers: &[u32], l: u64) -> Result<Share, Refusal>
     ensures { HandlerSays (asked_refusal tasks.now handlers.now l)
         (handlers_of handlers.now) l result }
 {
-    let number = refusal::of_question(tasks, handlers, l);
-    if number == 0 {
-        let ticks = handled(handlers, l);
-        let left = left(handlers, l, ticks);
-        HandlerAnswer::Ticks { ticks, left }
-    } else {
-        HandlerAnswer::Refused { number }
-    }
+    refusal::of_question(tasks, handlers, l)?;
+    let ticks = handled(handlers, l);
+    let left = left(handlers, l, ticks);
+    Ok(Share { ticks, left })
 }
 
 // Task demand D at l: the work of tasks that is due within l ticks.
-pub fn task_demand(tasks: &[u32], handlers: &[u32], l: u64) -> DemandAnswer
+pub fn task_demand(tasks: &[u32], handlers: &[u32], l: u64) -> Result<u64, Refusal>
     ensures { DemandSays (asked_refusal tasks.now handlers.now l) (due (tasks_of tasks.now) l) result }
 {
-    let number = refusal::of_question(tasks, handlers, l);
-    if number == 0 {
-        DemandAnswer::Ticks {
-            ticks: rows::due(tasks, l),
-        }
-    } else {
-        DemandAnswer::Refused { number }
-    }
+    refusal::of_question(tasks, handlers, l)?;
+    Ok(rows::due(tasks, l))
 }
 
 // Margin at l: l - f(l) - D(l), below 0 exactly where the interval fails, and the work that handlers leave over.
-pub fn margin(tasks: &[u32], handlers: &[u32], l: u64) -> MarginAnswer
+pub fn margin(tasks: &[u32], handlers: &[u32], l: u64) -> Result<Spare, Refusal>
     ensures { MarginSays (asked_refusal tasks.now handlers.now l)
         (tasks_of tasks.now) (handlers_of handlers.now) l result }
 {
-    let number = refusal::of_question(tasks, handlers, l);
-    if number == 0 {
-        let f = handled(handlers, l);
-        let d = rows::due(tasks, l);
-        let left = left(handlers, l, f);
-        MarginAnswer::Ticks {
-            ticks: signed::less_both(l, f, d),
-            left,
-        }
-    } else {
-        MarginAnswer::Refused { number }
-    }
+    refusal::of_question(tasks, handlers, l)?;
+    let f = handled(handlers, l);
+    let d = rows::due(tasks, l);
+    let left = left(handlers, l, f);
+    Ok(Spare {
+        ticks: signed::less_both(l, f, d),
+        left,
+    })
 }
 
 // The work that handlers leave over at the end of l ticks, of which they take f.
@@ -102,8 +83,10 @@ fn handled(handlers: &[u32], l: u64) -> u64
     requires { Small (handlers_of handlers.now) l × (length (handlers_of handlers.now) ≤ handlers_most) }
     ensures { result ≡ handled (handlers_of handlers.now) l }
 {
-    let own = multiples::of_rows(Kind::Handler, handlers, 1);
-    if (own == 0) | (l < own) {
+    let Some(own) = multiples::of_rows(Kind::Handler, handlers, 1) else {
+        return walked(handlers, l);
+    };
+    if l < own {
         return walked(handlers, l);
     }
     let work = rows::called(Kind::Handler, handlers, own);
@@ -118,7 +101,7 @@ fn walked(handlers: &[u32], l: u64) -> u64
     requires { Small (handlers_of handlers.now) l × (length (handlers_of handlers.now) ≤ handlers_most) }
     ensures { result ≡ handled (handlers_of handlers.now) l }
 {
-    let mut room = [[0u64; 3]; HANDLERS_MOST];
+    let mut room = [Entry::NONE; HANDLERS_MOST];
     let k = events::begin(Kind::Handler, Event::Arrival, handlers, &mut room);
     let end = arrivals::to(&mut room[k..], arrivals::start(), l);
     end.taken

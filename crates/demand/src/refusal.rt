@@ -85,32 +85,31 @@ fn some_deadline_outside(tasks: &[u32]) -> bool
 }
 
 // The table's own refusal, 1, 2, 3 or 13.
-pub fn of_table(tasks: &[u32], handlers: &[u32]) -> u32
-    ensures { result ≡ table_refusal tasks.now handlers.now }
+pub fn of_table(tasks: &[u32], handlers: &[u32]) -> Result<(), Refusal>
+    ensures { refused result ≡ table_refusal tasks.now handlers.now }
 {
     if uneven(Kind::Task, tasks) | uneven(Kind::Handler, handlers) {
-        return 1;
+        return Err(Refusal::Uneven);
     }
     if miscounted(tasks, handlers) {
-        return 2;
+        return Err(Refusal::Miscounted);
     }
     if some_outside(Kind::Task, tasks) | some_outside(Kind::Handler, handlers) {
-        return 3;
+        return Err(Refusal::RowOutOfRange);
     }
     if some_deadline_outside(tasks) {
-        return 13;
+        return Err(Refusal::DeadlineOutOfRange);
     }
-    0
+    Ok(())
 }
 
 // The refusal of a question about an interval of l ticks: the table's own, or 5.
-pub fn of_question(tasks: &[u32], handlers: &[u32], l: u64) -> u32
-    ensures { result ≡ asked_refusal tasks.now handlers.now l }
+pub fn of_question(tasks: &[u32], handlers: &[u32], l: u64) -> Result<(), Refusal>
+    ensures { refused result ≡ asked_refusal tasks.now handlers.now l }
 {
-    let number = of_table(tasks, handlers);
-    if number == 0 {
-        if TICKS_MOST < l { 5 } else { 0 }
-    } else {
-        number
+    of_table(tasks, handlers)?;
+    if TICKS_MOST < l {
+        return Err(Refusal::IntervalTooLong);
     }
+    Ok(())
 }

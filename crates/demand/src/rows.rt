@@ -44,5 +44,5 @@ pub fn called(kind: Kind, s: &[u32], l: u64) -> u64
     }
     let row = head(kind, s);
     let rest = called(kind, &s[own..], l);
-    row.cost * ((l + (row.period - 1)) / row.period) + rest
+    row.cost * l.div_ceil(row.period) + rest
 }

@@ -1,7 +1,8 @@
 // A table as it is lent: two flat lists of numbers, and their limits. The only place in the code that knows how many numbers a row has.
 ghost use Rattle.std.specs.Prelude.{◌∷◌, ◌≡◌, ◌<◌, ◌≤◌, length};
+ghost use Rattle.demand.specs.Limits.{tasks_most};
 ghost use Rattle.demand.specs.Refusals.{outside};
-ghost use Rattle.demand.specs.Rows.{rows_of, width, row_of, rest};
+ghost use Rattle.demand.specs.Rows.{rows_of, width, row_of, row_at, rest};
 
 // The greatest cost or period.
 pub const FIGURE_MOST: u64 = 1_000_000;
@@ -50,13 +51,6 @@ pub fn count(kind: Kind, s: &[u32]) -> usize
     s.len() / width(kind)
 }
 
-// A lent number, with room for sums.
-pub fn wide(x: u32) -> u64
-    ensures { (result ≡ x) × (result < 4294967296) }
-{
-    x as u64
-}
-
 // The row at the head: where its figures stand is known here alone. The last of them is the deadline.
 pub fn head(kind: Kind, s: &[u32]) -> Row
     requires { width kind ≤ length s.now }
@@ -64,10 +58,19 @@ pub fn head(kind: Kind, s: &[u32]) -> Row
 {
     let last = width(kind) - 1;
     Row {
-        cost: wide(s[0]),
-        period: wide(s[1]),
-        deadline: wide(s[last]),
+        cost: u64::from(s[0]),
+        period: u64::from(s[1]),
+        deadline: u64::from(s[last]),
     }
+}
+
+// The row at place i of a list.
+pub fn row_at(kind: Kind, s: &[u32], i: usize) -> Row
+    requires { (i < tasks_most) × (i < length (rows_of kind s.now)) }
+    ensures { row_of result ≡ row_at (rows_of kind s.now) i }
+{
+    let at = width(kind) * i;
+    head(kind, &s[at..])
 }
 
 // Is a figure 0 or above its limit?

@@ -8,7 +8,8 @@ use native.Mathlib.Omega.{arith}
 use borrow.Author.Tests.{le-ltb, lt-ltb}
 use Prim.Native.Nat.{ℕ, zero, suc, ◌+◌, ◌-◌, ◌*◌, ◌/◌, ◌≤◌, ◌<◌}
 use lib.ListN.{length}
-use Rattle.walk.specs.Queue.{Entry, head, next, cost, period, passed, events, to_come, insert, Entries, Ahead, Ordered, FairEntry, Queue}
+use Rattle.walk.specs.Queue.{head, passed, events, to_come, insert, Entries, Ahead, Ordered, FairEntry, Queue}
+use Rattle.walk.specs.declared.Entry.{Entry}
 
 -- ---- how many events
 
@@ -33,11 +34,11 @@ entries-map f [] p = tt
 entries-map f (e ∷ q) p = (f e p.0, entries-map f q p.1)
 
 -- Where the first event comes above n, all do.
-pub head-ahead : (q : List Entry) (n : ℕ) → Queue q → n < next (head q) → Ahead n q
+pub head-ahead : (q : List Entry) (n : ℕ) → Queue q → n < (head q).next → Ahead n q
 head-ahead [] n k h = tt
 head-ahead (e ∷ q) n k h = (h, entries-map (λ f m. omega (arith, m)) q k.ordered.0)
 
-pub ahead-head : (q : List Entry) (n : ℕ) → 1 ≤ length q → Ahead n q → n < next (head q)
+pub ahead-head : (q : List Entry) (n : ℕ) → 1 ≤ length q → Ahead n q → n < (head q).next
 ahead-head [] n some a = absurd (omega arith)
 ahead-head (e ∷ q) n some a = a.0
 
@@ -51,7 +52,7 @@ pub come-nil : (x : ℕ) → to_come [] x ≡ 0
 unfolding to_come
 come-nil x = refl
 
-pub come-cons : (e : Entry) (q : List Entry) (x : ℕ) → to_come (e ∷ q) x ≡ cost e * events x (next e) (period e) + to_come q x
+pub come-cons : (e : Entry) (q : List Entry) (x : ℕ) → to_come (e ∷ q) x ≡ e.cost * events x e.next e.period + to_come q x
 unfolding to_come
 come-cons e q x = refl
 
@@ -59,11 +60,11 @@ come-cons e q x = refl
 pub come-none : (x : ℕ) (q : List Entry) → Ahead x q → to_come q x ≡ 0
 come-none x [] a = come-nil x
 come-none x (e ∷ q) a =
-    let none : cost e * events x (next e) (period e) ≡ cost e * 0 = ap (λ (z : ℕ). cost e * z) (events-none x (next e) (period e) a.0) in
-    omega (arith, come-cons e q x, none, mul-zero (cost e), come-none x q a.1)
+    let none : e.cost * events x e.next e.period ≡ e.cost * 0 = ap (λ (z : ℕ). e.cost * z) (events-none x e.next e.period a.0) in
+    omega (arith, come-cons e q x, none, mul-zero e.cost, come-none x q a.1)
 
 -- and so none before the first.
-pub come-before : (q : List Entry) (x : ℕ) → Queue q → x < next (head q) → to_come q x ≡ 0
+pub come-before : (q : List Entry) (x : ℕ) → Queue q → x < (head q).next → to_come q x ≡ 0
 come-before q x k h = come-none x q (head-ahead q x k h)
 
 pub come-mono : (q : List Entry) {x y : ℕ} → Entries FairEntry q → x ≤ y → to_come q x ≤ to_come q y
@@ -74,16 +75,16 @@ come-mono (e ∷ q) {x} {y} f h =
       come-cons e q x,
       come-cons e q y,
       come-mono q {x = x} {y = y} f.1 h,
-      mul-le-mul_left (cost e) (events-mono (next e) (period e) {x = x} {y = y} f.0.period h),
+      mul-le-mul_left e.cost (events-mono e.next e.period {x = x} {y = y} f.0.period h),
     )
 
 -- An entry whose event has come brings its cost, and what comes behind it.
-pub come-passed : (e : Entry) (q : List Entry) (x : ℕ) → FairEntry e → next e ≤ x → to_come (e ∷ q) x ≡ cost e + to_come (passed e ∷ q) x
+pub come-passed : (e : Entry) (q : List Entry) (x : ℕ) → FairEntry e → e.next ≤ x → to_come (e ∷ q) x ≡ e.cost + to_come (passed e ∷ q) x
 come-passed e q x f h =
-    let later : ℕ = events x (next e + period e) (period e) in
-    let grown : cost e * events x (next e) (period e) ≡ cost e * suc later =
-    ap (λ (z : ℕ). cost e * z) (events-passed x (next e) (period e) f.period h) in
-    omega (arith, come-cons e q x, come-cons (passed e) q x, grown, mul-suc (cost e) later)
+    let later : ℕ = events x (e.next + e.period) e.period in
+    let grown : e.cost * events x e.next e.period ≡ e.cost * suc later =
+    ap (λ (z : ℕ). e.cost * z) (events-passed x e.next e.period f.period h) in
+    omega (arith, come-cons e q x, come-cons (passed e) q x, grown, mul-suc e.cost later)
 
 -- ---- insertion
 
@@ -99,46 +100,46 @@ unfolding insert
 insert-nil e = refl
 
 -- An entry goes before one that comes no sooner, and behind one that does.
-pub insert-before : (e f : Entry) (q : List Entry) → next e ≤ next f → insert e (f ∷ q) ≡ e ∷ f ∷ q
+pub insert-before : (e f : Entry) (q : List Entry) → e.next ≤ f.next → insert e (f ∷ q) ≡ e ∷ f ∷ q
 unfolding insert
-insert-before e f q h = rw (le-ltb (next f) (next e) h)
+insert-before e f q h = rw (le-ltb f.next e.next h)
 
-pub insert-behind : (e f : Entry) (q : List Entry) → next f < next e → insert e (f ∷ q) ≡ f ∷ insert e q
+pub insert-behind : (e f : Entry) (q : List Entry) → f.next < e.next → insert e (f ∷ q) ≡ f ∷ insert e q
 unfolding insert
-insert-behind e f q h = rw (lt-ltb (next f) (next e) h)
+insert-behind e f q h = rw (lt-ltb f.next e.next h)
 
 pub insert-come : (e : Entry) (q : List Entry) (x : ℕ) → to_come (insert e q) x ≡ to_come (e ∷ q) x
 insert-come e [] x = rw (insert-nil e)
-insert-come e (f ∷ q) x = go (le-or-lt (next e) (next f)) (insert-come e q x)
+insert-come e (f ∷ q) x = go (le-or-lt e.next f.next) (insert-come e q x)
   where
-    go : (next e ≤ next f) ⊎ (next f < next e) → to_come (insert e q) x ≡ to_come (e ∷ q) x → to_come (insert e (f ∷ q)) x ≡ to_come (e ∷ f ∷ q) x
+    go : (e.next ≤ f.next) ⊎ (f.next < e.next) → to_come (insert e q) x ≡ to_come (e ∷ q) x → to_come (insert e (f ∷ q)) x ≡ to_come (e ∷ f ∷ q) x
     go (inl h) rest = rw (insert-before e f q h)
     go (inr h) rest =
         rw (insert-behind e f q h) (omega (arith, come-cons f (insert e q) x, come-cons e (f ∷ q) x, come-cons f q x, come-cons e q x, rest))
 
 pub insert-length : (e : Entry) (q : List Entry) → length (insert e q) ≡ suc (length q)
 insert-length e [] = rw (insert-nil e)
-insert-length e (f ∷ q) = go (le-or-lt (next e) (next f)) (insert-length e q)
+insert-length e (f ∷ q) = go (le-or-lt e.next f.next) (insert-length e q)
   where
-    go : (next e ≤ next f) ⊎ (next f < next e) → length (insert e q) ≡ suc (length q) → length (insert e (f ∷ q)) ≡ suc (length (f ∷ q))
+    go : (e.next ≤ f.next) ⊎ (f.next < e.next) → length (insert e q) ≡ suc (length q) → length (insert e (f ∷ q)) ≡ suc (length (f ∷ q))
     go (inl h) rest = rw (insert-before e f q h)
     go (inr h) rest = rw (insert-behind e f q h) (ap suc rest)
 
 pub insert-entries : (P : Entry → Type 0) (e : Entry) (q : List Entry) → P e → Entries P q → Entries P (insert e q)
 insert-entries P e [] h p = rw (insert-nil e) (h, tt)
-insert-entries P e (f ∷ q) h p = go (le-or-lt (next e) (next f)) (insert-entries P e q h p.1)
+insert-entries P e (f ∷ q) h p = go (le-or-lt e.next f.next) (insert-entries P e q h p.1)
   where
-    go : (next e ≤ next f) ⊎ (next f < next e) → Entries P (insert e q) → Entries P (insert e (f ∷ q))
+    go : (e.next ≤ f.next) ⊎ (f.next < e.next) → Entries P (insert e q) → Entries P (insert e (f ∷ q))
     go (inl l) rest = rw (insert-before e f q l) (h, p)
     go (inr l) rest = rw (insert-behind e f q l) (p.0, rest)
 
 insert-ordered : (e : Entry) (q : List Entry) → Ordered q → Ordered (insert e q)
 insert-ordered e [] o = rw (insert-nil e) (tt, tt)
-insert-ordered e (f ∷ q) o = go (le-or-lt (next e) (next f)) (insert-ordered e q o.1)
+insert-ordered e (f ∷ q) o = go (le-or-lt e.next f.next) (insert-ordered e q o.1)
   where
-    go : (next e ≤ next f) ⊎ (next f < next e) → Ordered (insert e q) → Ordered (insert e (f ∷ q))
+    go : (e.next ≤ f.next) ⊎ (f.next < e.next) → Ordered (insert e q) → Ordered (insert e (f ∷ q))
     go (inl l) rest = rw (insert-before e f q l) ((l, entries-map (λ g h. omega (arith, h)) q o.0), o)
-    go (inr l) rest = rw (insert-behind e f q l) (insert-entries (λ g. next f ≤ next g) e q (omega arith) o.0, rest)
+    go (inr l) rest = rw (insert-behind e f q l) (insert-entries (λ g. f.next ≤ g.next) e q (omega arith) o.0, rest)
 
 pub insert-queue : (e : Entry) (q : List Entry) → FairEntry e → Queue q → Queue (insert e q)
 insert-queue e q f k = record { fair = insert-entries FairEntry e q f k.fair; ordered = insert-ordered e q k.ordered }

@@ -1,6 +1,6 @@
 -- Events carried in order. An entry's events come at its next, a period after that, and so on, each with the entry's cost. D, A and every
 -- other work that comes a period apart is the work of such events (01, "The two demands").
---   Entry               == [next, cost, period], as the code holds it
+--   no_entry            == what a free place holds
 --   events x n p        == how many of n, n + p, n + 2p, .. are at most x
 --   to_come q x          == the work of the events of q up to tick x
 --   passed e            == the entry e behind its next event
@@ -15,57 +15,50 @@
 --   Taken n q sum r s   the queue q with sum carried has become r with s: the same work at every tick from n on, all of r's above n
 --   CanAdd e k q        e may be added to the entries from place k on of q
 --   Added e k q j r     the entries from place k on of q, and e, have become those from place j on of r
-use Rattle.std.specs.Prelude.{cond, List, [], ◌∷◌, ◌≡◌, ℕ, ◌+◌, ◌-◌, ◌*◌, ◌/◌, ◌^◌, ◌≤◌, ◌<◌, ltb, length, get_or, drop}
+use Rattle.std.specs.Prelude.{cond, List, [], ◌∷◌, ◌≡◌, ℕ, ◌+◌, ◌-◌, ◌*◌, ◌/◌, ◌^◌, ◌≤◌, ◌<◌, ltb, length, get_or, drop, Option, None, Some, ⊤}
+use Rattle.walk.specs.declared.Entry.{Entry}
 
-abbrev pub Entry : Type 0
-Entry = List ℕ
+-- what a free place holds
+abbrev pub no_entry : Entry
+no_entry = record { next = 0; cost = 0; period = 0 }
 
 -- the first entry
 abbrev pub head : List Entry → Entry
-head q = get_or q 0 []
-
-abbrev pub next : Entry → ℕ
-next e = get_or e 0 0
-
-abbrev pub cost : Entry → ℕ
-cost e = get_or e 1 0
-
-abbrev pub period : Entry → ℕ
-period e = get_or e 2 0
+head q = get_or q 0 no_entry
 
 abbrev pub passed : Entry → Entry
-passed e = (next e + period e) ∷ cost e ∷ period e ∷ []
+passed e = record { next = e.next + e.period; cost = e.cost; period = e.period }
 
 abbrev pub joined : Entry → Entry → Entry
-joined e f = next e ∷ (cost f + cost e) ∷ period e ∷ []
+joined e f = record { next = f.next; cost = f.cost + e.cost; period = f.period }
 
 abbrev pub events : ℕ → ℕ → ℕ → ℕ
 events x n p = (x + p - n) / p
 
 unfoldable pub to_come : List Entry → ℕ → ℕ
 to_come [] x = 0
-to_come (e ∷ q) x = cost e * events x (next e) (period e) + to_come q x
+to_come (e ∷ q) x = e.cost * events x e.next e.period + to_come q x
 
 unfoldable pub insert : Entry → List Entry → List Entry
 insert e [] = e ∷ []
-insert e (f ∷ q) = cond (ltb (next f) (next e)) (f ∷ insert e q) (e ∷ f ∷ q)
+insert e (f ∷ q) = cond (ltb f.next e.next) (f ∷ insert e q) (e ∷ f ∷ q)
 
 abbrev pub Entries : (Entry → Type 0) → List Entry → Type 0
 Entries P [] = Unit
 Entries P (e ∷ q) = P e × Entries P q
 
 abbrev pub Ahead : ℕ → List Entry → Type 0
-Ahead n q = Entries (λ e. n < next e) q
+Ahead n q = Entries (λ e. n < e.next) q
 
 abbrev pub Ordered : List Entry → Type 0
 Ordered [] = Unit
-Ordered (e ∷ q) = Entries (λ f. next e ≤ next f) q × Ordered q
+Ordered (e ∷ q) = Entries (λ f. e.next ≤ f.next) q × Ordered q
 
 -- An event brings work, and the one behind it comes later, within a word.
 pub record FairEntry (e : Entry) : Type 0 where
-  pub cost : 1 ≤ get_or e 1 0
-  pub period : 1 ≤ get_or e 2 0
-  pub word : get_or e 2 0 < 2 ^ 63
+  pub cost : 1 ≤ e.cost
+  pub period : 1 ≤ e.period
+  pub word : e.period < 2 ^ 63
 
 pub record Queue (q : List Entry) : Type 0 where
   pub fair : Entries FairEntry q
@@ -81,8 +74,8 @@ pub record CanTakeTo (n : ℕ) (q : List Entry) (sum : ℕ) : Type 0 where
 pub record CanTake (q : List Entry) (sum : ℕ) : Type 0 where
   pub queue : Queue q
   pub some : 1 ≤ length q
-  pub early : next (head q) < 2 ^ 63
-  pub fits : sum + to_come q (next (head q)) < 2 ^ 64
+  pub early : (head q).next < 2 ^ 63
+  pub fits : sum + to_come q (head q).next < 2 ^ 64
 
 pub record Taken (n : ℕ) (q : List Entry) (sum : ℕ) (r : List Entry) (s : ℕ) : Type 0 where
   pub same : (x : ℕ) → n ≤ x → sum + to_come q x ≡ s + to_come r x
@@ -92,11 +85,16 @@ pub record Taken (n : ℕ) (q : List Entry) (sum : ℕ) (r : List Entry) (s : �
 
 -- ---- adding
 
--- Place i is the end, or behind k and that of an entry with the events of e.
-pub record Twin (q : List Entry) (k : ℕ) (e : Entry) (i : ℕ) : Type 0 where
+-- A place from k on whose entry has the events of e, where one is found.
+pub record At (q : List Entry) (k : ℕ) (e : Entry) (i : ℕ) : Type 0 where
   pub behind : k ≤ i
-  pub fits : i ≤ length q
-  pub alike : i < length q → (next (get_or q i []) ≡ next e) × (period (get_or q i []) ≡ period e)
+  pub fits : i < length q
+  pub next : (get_or q i no_entry).next ≡ e.next
+  pub period : (get_or q i no_entry).period ≡ e.period
+
+abbrev pub Twin : List Entry → ℕ → Entry → Option ℕ → Type 0
+Twin q k e (Some i) = At q k e i
+Twin q k e None = ⊤
 
 -- A place is free, and the work up to the tick of e fits a word.
 pub record CanAdd (e : Entry) (k : ℕ) (q : List Entry) : Type 0 where
@@ -104,7 +102,7 @@ pub record CanAdd (e : Entry) (k : ℕ) (q : List Entry) : Type 0 where
   pub within : k ≤ length q
   pub queue : Queue (drop k q)
   pub fair : FairEntry e
-  pub fits : to_come (e ∷ drop k q) (next e) < 2 ^ 64
+  pub fits : to_come (e ∷ drop k q) e.next < 2 ^ 64
 
 pub record Added (e : Entry) (k : ℕ) (q : List Entry) (j : ℕ) (r : List Entry) : Type 0 where
   pub near : k ≤ j + 1
@@ -113,4 +111,4 @@ pub record Added (e : Entry) (k : ℕ) (q : List Entry) (j : ℕ) (r : List Entr
   pub long : length r ≡ length q
   pub queue : Queue (drop j r)
   pub same : (x : ℕ) → to_come (drop j r) x ≡ to_come (e ∷ drop k q) x
-  pub ahead : (n : ℕ) → n < next e → Ahead n (drop k q) → Ahead n (drop j r)
+  pub ahead : (n : ℕ) → n < e.next → Ahead n (drop k q) → Ahead n (drop j r)

@@ -5,7 +5,8 @@ use native.Mathlib.Omega.{arith}
 use Prim.Native.Nat.{ℕ, suc, ◌+◌, ◌-◌, ◌≤◌, ◌<◌}
 use lib.ListN.{length, take, drop, length-drop}
 use lib.Seq.{take_all}
-use Rattle.walk.specs.Queue.{Entry, head, next, to_come, Ahead, CanTake, Taken}
+use Rattle.walk.specs.Queue.{head, to_come, Ahead, CanTake, Taken}
+use Rattle.walk.specs.declared.Entry.{Entry}
 use Rattle.walk.proofs.Queue.{entries-map, head-ahead, ahead-head, come-none, come-mono}
 use Rattle.demand.specs.Demands.{called, taken, handled}
 use Rattle.demand.specs.Inside.Arrivals.{outset, waited, Follows, Level, Come}
@@ -45,8 +46,8 @@ module _ (q : List Entry) (p : Progress) (m : ℕ) (l : Level q p m) where
   })
 
   -- The arrivals of the first tick.
-  module _ (some : 1 ≤ length q) (here : next (head q) ≤ m) where
-    pub come-least : p.at < next (head q)
+  module _ (some : 1 ≤ length q) (here : (head q).next ≤ m) where
+    pub come-least : p.at < (head q).next
     come-least = ahead-head q p.at some l.ahead
 
     pub come-can : CanTake q p.called
@@ -54,15 +55,15 @@ module _ (q : List Entry) (p : Progress) (m : ℕ) (l : Level q p m) where
       queue = l.queue;
       some = some;
       early = omega (arith, l.ticks);
-      fits = omega (arith, come-mono q {x = next (head q)} {y = m} l.queue.fair here, l.fits);
+      fits = omega (arith, come-mono q {x = (head q).next} {y = m} l.queue.fair here, l.fits);
     }
 
-    module _ (t : List Entry) (s : ℕ) (took : Taken (next (head q)) q p.called t s) where
-      grown : s ≡ p.called + to_come q (next (head q))
-      grown = omega (arith, took.same (next (head q)) (omega arith), come-none (next (head q)) t took.ahead)
+    module _ (t : List Entry) (s : ℕ) (took : Taken (head q).next q p.called t s) where
+      grown : s ≡ p.called + to_come q (head q).next
+      grown = omega (arith, took.same (head q).next (omega arith), come-none (head q).next t took.ahead)
 
       abbrev there : Progress
-      there = record { at = next (head q) - 1; taken = (waited p (next (head q) - 1)).taken; called = s }
+      there = record { at = (head q).next - 1; taken = (waited p ((head q).next - 1)).taken; called = s }
 
       pub come-level : Level t there m
       come-level = record {
@@ -77,11 +78,11 @@ module _ (q : List Entry) (p : Progress) (m : ℕ) (l : Level q p m) where
       pub come-follows : (a : ℕ → ℕ) → Follows a q p → Follows a t there
       come-follows a f = record {
         work = λ x h. omega (arith, f.work x (omega (arith, come-least)), took.same x (omega (arith, come-least)));
-        taken = sym (follows_on a q p (next (head q) - 1) f l.low (omega (arith, come-least)) (head-ahead q (next (head q) - 1) l.queue (omega (arith, come-least))));
+        taken = sym (follows_on a q p ((head q).next - 1) f l.low (omega (arith, come-least)) (head-ahead q ((head q).next - 1) l.queue (omega (arith, come-least))));
       }
 
-      pub come-later : next (head q) < next (head t)
-      come-later = ahead-head t (next (head q)) (omega (arith, took.long)) took.ahead
+      pub come-later : (head q).next < (head t).next
+      come-later = ahead-head t (head q).next (omega (arith, took.long)) took.ahead
 
 -- A walk that has come to w and then waits.
 pub come-over : (q : List Entry) (p : Progress) (r : List Entry) (w : Progress) (m : ℕ) (v : Progress) → Level r w m → length r ≡ length q

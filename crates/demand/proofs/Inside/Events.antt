@@ -5,7 +5,8 @@ use native.Mathlib.Omega.{arith}
 use Prim.Native.Nat.{ℕ, ◌+◌, ◌*◌, ◌≤◌, ◌<◌}
 use lib.ListN.{length, drop, length-drop}
 use lib.Seq.{drop-length}
-use Rattle.walk.specs.Queue.{Entry, to_come, Ahead, Queue, CanAdd, Added}
+use Rattle.walk.specs.Queue.{to_come, Ahead, Queue, CanAdd, Added}
+use Rattle.walk.specs.declared.Entry.{Entry}
 use Rattle.walk.proofs.Queue.{come-nil, come-cons}
 use Rattle.demand.specs.Demands.{called_by, due_by, called, due}
 use Rattle.demand.specs.Inside.Events.{first_of, work_by, work_of, Placeable, Begun}
@@ -19,7 +20,7 @@ use Rattle.demand.specs.declared.table.Kind.{Kind}
 use Rattle.demand.proofs.Between.{plain-valid}
 use Rattle.demand.proofs.Divide.{events-within, events-ceil}
 use Rattle.demand.proofs.Inside.Sizes.{fair-positive, due-most, called-most}
-use Rattle.demand.proofs.Inside.Slices.{from, from_zero, from-rest, from-length, rows_short, handlers-plain}
+use Rattle.demand.proofs.Inside.Slices.{rows_short, handlers-plain}
 use Rattle.demand.proofs.Sums.{each_map, total-nil, total-cons, total-same}
 
 -- ---- what the events bring
@@ -67,40 +68,38 @@ handlers-placeable h n fair few most = record {
   room = few;
 }
 
--- ---- the loop: rows from number i of the list on are still to be put, into places before k
+-- ---- the loop: the rows of u, the last of s, are still to be put, into places before k
 
-pub record Beginning (kind : Kind) (event : Event) (s : List ℕ) (places i : ℕ) (q : List Entry) (k : ℕ) : Type 0 where
-  pub read : i ≤ length s
+pub record Beginning (kind : Kind) (event : Event) (s : List ℕ) (places : ℕ) (u : List ℕ) (q : List Entry) (k : ℕ) : Type 0 where
   pub long : length q ≡ places
   pub within : k ≤ places
-  pub rows : Each FairRow (rows_of kind (from i s))
-  pub deadlines : Valid (rows_of kind (from i s))
-  pub room : length (rows_of kind (from i s)) ≤ k
+  pub rows : Each FairRow (rows_of kind u)
+  pub deadlines : Valid (rows_of kind u)
+  pub room : length (rows_of kind u) ≤ k
   pub queue : Queue (drop k q)
   pub ahead : Ahead 0 (drop k q)
-  pub work : (x : ℕ) → to_come (drop k q) x + work_of event (rows_of kind (from i s)) x ≡ work_of event (rows_of kind s) x
-  pub some : length (rows_of kind (from i s)) < length (rows_of kind s) → k < places
+  pub work : (x : ℕ) → to_come (drop k q) x + work_of event (rows_of kind u) x ≡ work_of event (rows_of kind s) x
+  pub some : length (rows_of kind u) < length (rows_of kind s) → k < places
 
 pub begin-start : (kind : Kind) (event : Event) (s : List ℕ) (q : List Entry) → Placeable (rows_of kind s) (length q)
-    → Beginning kind event s (length q) 0 q (length q)
+    → Beginning kind event s (length q) s q (length q)
 begin-start kind event s q can = record {
-  read = omega arith;
   long = refl;
   within = omega arith;
-  rows = rw (from_zero s) can.rows;
-  deadlines = rw (from_zero s) can.deadlines;
-  room = rw (from_zero s) can.room;
+  rows = can.rows;
+  deadlines = can.deadlines;
+  room = can.room;
   queue = rw (drop-length q) (record { fair = tt; ordered = tt });
   ahead = rw (drop-length q) tt;
-  work = λ x. rw (from_zero s, drop-length q) (omega (arith, come-nil x));
-  some = λ h. absurd (omega (arith, h, ap (λ (z : List ℕ). length (rows_of kind z)) (from_zero s)));
+  work = λ x. rw (drop-length q) (omega (arith, come-nil x));
+  some = λ h. absurd (omega (arith, h));
 }
 
-module _ (kind : Kind) (event : Event) (s : List ℕ) (places i : ℕ) (q : List Entry) (k : ℕ) (can : Placeable (rows_of kind s) places)
-    (so_far : Beginning kind event s places i q k) where
-  module _ (r : Row) (one : rows_of kind (from i s) ≡ r ∷ rows_of kind (rest kind (from i s))) where
+module _ (kind : Kind) (event : Event) (s : List ℕ) (places : ℕ) (u : List ℕ) (q : List Entry) (k : ℕ) (can : Placeable (rows_of kind s) places)
+    (so_far : Beginning kind event s places u q k) where
+  module _ (r : Row) (one : rows_of kind u ≡ r ∷ rows_of kind (rest kind u)) where
     abbrev entry : Entry
-    entry = first_of event r.deadline ∷ r.cost ∷ r.period ∷ []
+    entry = record { next = first_of event r.deadline; cost = r.cost; period = r.period }
 
     fair : FairRow r
     fair = (rw one at so_far.rows).0
@@ -108,21 +107,18 @@ module _ (kind : Kind) (event : Event) (s : List ℕ) (places i : ℕ) (q : List
     sound : Sound r
     sound = (rw one at so_far.deadlines).0
 
-    remaining : rows_of kind (from i s) ≡ r ∷ rows_of kind (from (i + width kind) s)
-    remaining = one ∙ ap (λ (z : List ℕ). r ∷ rows_of kind z) (from-rest kind i s)
-
     -- The row's events and those in their places are all that have been put.
-    work : (x : ℕ) → to_come (entry ∷ drop k q) x + work_of event (rows_of kind (from (i + width kind) s)) x ≡ work_of event (rows_of kind s) x
+    work : (x : ℕ) → to_come (entry ∷ drop k q) x + work_of event (rows_of kind (rest kind u)) x ≡ work_of event (rows_of kind s) x
     work x =
         omega (
           arith,
           come-cons entry (drop k q) x,
           so_far.work x,
-          ap (λ (z : List Row). work_of event z x) remaining,
-          work-cons event r (rows_of kind (from (i + width kind) s)) x,
+          ap (λ (z : List Row). work_of event z x) one,
+          work-cons event r (rows_of kind (rest kind u)) x,
         )
 
-    pub begin-can : CanAdd (first_of event r.deadline ∷ r.cost ∷ r.period ∷ []) k q
+    pub begin-can : CanAdd entry k q
     begin-can =
         let at : ℕ = first_of event r.deadline in
         let small : Small (rows_of kind s) at = record {
@@ -131,31 +127,29 @@ module _ (kind : Kind) (event : Event) (s : List ℕ) (places i : ℕ) (q : List
           ticks = omega (arith, first-most event r fair sound);
         } in
         record {
-          room = omega (arith, so_far.room, ap (λ (z : List Row). length z) remaining);
+          room = omega (arith, so_far.room, ap (λ (z : List Row). length z) one);
           within = omega (arith, so_far.within, so_far.long);
           queue = so_far.queue;
           fair = record { cost = fair.cost.least; period = fair.period.least; word = omega (arith, fair.period.most) };
           fits = omega (arith, work at, work-most event (rows_of kind s) at small);
         }
 
-    pub begin-turn : (j : ℕ) (t : List Entry) → i + width kind ≤ length s → Added (first_of event r.deadline ∷ r.cost ∷ r.period ∷ []) k q j t
-        → Beginning kind event s places (i + width kind) t j
-    begin-turn j t more added = record {
-      read = more;
+    pub begin-turn : (j : ℕ) (t : List Entry) → Added entry k q j t → Beginning kind event s places (rest kind u) t j
+    begin-turn j t added = record {
       long = added.long ∙ so_far.long;
       within = omega (arith, added.within, so_far.within);
-      rows = (rw remaining at so_far.rows).1;
-      deadlines = (rw remaining at so_far.deadlines).1;
-      room = omega (arith, so_far.room, ap (λ (z : List Row). length z) remaining, added.near);
+      rows = (rw one at so_far.rows).1;
+      deadlines = (rw one at so_far.deadlines).1;
+      room = omega (arith, so_far.room, ap (λ (z : List Row). length z) one, added.near);
       queue = added.queue;
       ahead = added.ahead 0 (first-least event r sound) so_far.ahead;
       work = λ x. omega (arith, work x, added.same x);
       some = λ h. omega (arith, added.some, so_far.long);
     }
 
-  pub begin-end : length s < i + width kind → Begun event (rows_of kind s) (drop k q)
+  pub begin-end : length u < width kind → Begun event (rows_of kind s) (drop k q)
   begin-end over =
-      let none : rows_of kind (from i s) ≡ [] = rows_short kind (from i s) (omega (arith, from-length i s, so_far.read)) in
+      let none : rows_of kind u ≡ [] = rows_short kind u over in
       record {
         queue = so_far.queue;
         ahead = so_far.ahead;

@@ -1,12 +1,15 @@
 -- The rows of a flat list by place: what a part of the list has of them.
 use mathlib.Core.List.{List, [], ◌∷◌, ◌++◌}
-use mathlib.Core.Path.{◌≡◌, refl, ap}
+use mathlib.Core.Path.{◌≡◌, refl, sym, ap, ◌∙◌}
+use native.Mathlib.Nat.{add-zero}
 use native.Mathlib.Omega.{arith}
-use Prim.Native.Nat.{ℕ, zero, suc, ◌*◌, ◌<◌}
-use lib.ListN.{length, take, drop}
-use Rattle.demand.specs.Rows.{Row, tasks_of, handlers_of, rows_of, width, row_at, Each}
+use Prim.Native.Nat.{ℕ, zero, suc, ◌+◌, ◌-◌, ◌*◌, ◌≤◌, ◌<◌}
+use lib.ListN.{length, get_or, take, drop}
+use lib.Seq.{get_or-drop}
+use Rattle.demand.specs.Rows.{Row, tasks_of, handlers_of, rows_of, width, row_at, no_row, Each}
 use Rattle.demand.specs.declared.table.Kind.{Kind}
 use Rattle.demand.specs.declared.table.Kind.TheVariants.{Task, Handler}
+use Rattle.demand.proofs.Inside.Slices.{rows-count, from_is}
 
 three : (n : ℕ) → 3 * suc n ≡ suc (suc (suc (3 * n)))
 three n = omega arith
@@ -56,3 +59,19 @@ pub each_at : (P : Row → Type 0) (rs : List Row) → Each P rs → (k : ℕ) �
 each_at P [] h k l = absurd (omega arith)
 each_at P (r ∷ rs) h zero l = h.0
 each_at P (r ∷ rs) h (suc k) l = each_at P rs h.1 k (omega arith)
+
+-- ---- the row at a place
+
+-- The list from row i on has a whole row.
+pub row_fits : (kind : Kind) (s : List ℕ) (i : ℕ) → i < length (rows_of kind s) → width kind * i + width kind ≤ length s
+row_fits Task s i h = omega (arith, rows-count Task s)
+row_fits Handler s i h = omega (arith, rows-count Handler s)
+
+-- The row at the head of the list from row i on is the row at i.
+pub row_read : (kind : Kind) (s : List ℕ) (from i : ℕ) (r : Row) (rest : List Row) → from ≡ width kind * i
+    → rows_of kind (take (length s - from) (drop from s)) ≡ r ∷ rest → r ≡ row_at (rows_of kind s) i
+row_read kind s from i r rest same e =
+    let behind : rows_of kind (drop from s) ≡ r ∷ rest = ap (rows_of kind) (sym (from_is from s)) ∙ e in
+    let rows : drop i (rows_of kind s) ≡ r ∷ rest = sym (rows_drop kind s i) ∙ ap (λ (n : ℕ). rows_of kind (drop n s)) (sym same) ∙ behind in
+    ap (λ (rs : List Row). get_or rs 0 no_row) (sym rows) ∙ get_or-drop i (rows_of kind s) 0 no_row
+    ∙ ap (λ (k : ℕ). get_or (rows_of kind s) k no_row) (add-zero i)

@@ -5,7 +5,8 @@
 --   Level q p m      from p, with the events q to come, one may go on to tick m
 --   Come q p m r w   from p and the events q one has come to tick m: to w and the events r
 use Rattle.std.specs.Prelude.{List, ◌≡◌, ℕ, ◌+◌, ◌-◌, ◌≤◌, ◌<◌, min, length}
-use Rattle.walk.specs.Queue.{Entry, to_come, Ahead, Queue}
+use Rattle.walk.specs.Queue.{to_come, Ahead, Queue}
+use Rattle.walk.specs.declared.Entry.{Entry}
 use Rattle.demand.specs.Demands.{taken}
 use Rattle.demand.specs.Inside.Sizes.{due_most}
 use Rattle.demand.specs.Limits.{ticks_most}

@@ -5,7 +5,8 @@
 --   Placeable rs n       rows in range, for which n places are enough
 --   Begun event rs q     q holds the events of rows rs, all of them to come
 use Rattle.std.specs.Prelude.{List, ◌≡◌, ℕ, ◌*◌, ◌≤◌, length}
-use Rattle.walk.specs.Queue.{Entry, events, to_come, Ahead, Queue}
+use Rattle.walk.specs.Queue.{events, to_come, Ahead, Queue}
+use Rattle.walk.specs.declared.Entry.{Entry}
 use Rattle.demand.specs.Limits.{tasks_most}
 use Rattle.demand.specs.Refusals.{FairRow}
 use Rattle.demand.specs.Rows.{Row, total, Each, Valid}

@@ -13,38 +13,32 @@ bounds-q-0 c = omega (arith, c.requires.1, c.loop-q.invariant.1)
 pub bounds-q-0-in-loop-q : goal.bounds-q-0-in-loop-q
 bounds-q-0-in-loop-q c = omega (arith, c.requires.1, c.loop-q.invariant.1)
 
-pub bounds-q-0-in-loop-q-2 : goal.bounds-q-0-in-loop-q-2
-bounds-q-0-in-loop-q-2 c = omega (arith, c.requires.1, c.loop-q.invariant.1)
-
-pub bounds-q-0-in-loop-q-3 : goal.bounds-q-0-in-loop-q-3
-bounds-q-0-in-loop-q-3 c = omega (arith, c.requires.1, c.loop-q.invariant.1)
-
 pub overflow_sub-q : goal.overflow_sub-q
 overflow_sub-q c =
     let turn = c.loop-q in
     omega (arith, come-least turn.q turn.w c.args.m turn.invariant.0 (omega (arith, c.requires.1, turn.invariant.1)) (omega arith))
 
-pub wait-before-requires : goal.wait-before-requires
-wait-before-requires c =
+pub wait-w-requires : goal.wait-w-requires
+wait-w-requires c =
     let turn = c.loop-q in
     (omega (arith, come-least turn.q turn.w c.args.m turn.invariant.0 (omega (arith, c.requires.1, turn.invariant.1)) (omega arith)), omega (arith, turn.invariant.0.ticks), omega (arith, turn.invariant.0.low, turn.invariant.0.fits))
 
-pub take-called-requires : goal.take-called-requires
-take-called-requires c =
+pub take-requires : goal.take-requires
+take-requires c =
     let turn = c.loop-q in
-    rw c.wait-before.ensures (come-can turn.q turn.w c.args.m turn.invariant.0 (omega (arith, c.requires.1, turn.invariant.1)) (omega arith))
+    rw c.wait-w.ensures (come-can turn.q turn.w c.args.m turn.invariant.0 (omega (arith, c.requires.1, turn.invariant.1)) (omega arith))
 
 pub loop-q-smaller : goal.loop-q-smaller
 loop-q-smaller c =
     let turn = c.loop-q in
-    let took = rw c.wait-before.ensures at c.take-called.ensures in
-    omega (arith, come-later turn.q turn.w c.args.m turn.invariant.0 (omega (arith, c.requires.1, turn.invariant.1)) (omega arith) c.take-called.new.q c.take-called.result took)
+    let took = rw c.wait-w.ensures at c.take.ensures in
+    omega (arith, come-later turn.q turn.w c.args.m turn.invariant.0 (omega (arith, c.requires.1, turn.invariant.1)) (omega arith) c.take.new.q c.take.result took)
 
 pub loop-q-preserved : goal.loop-q-preserved
 loop-q-preserved c =
     let turn = c.loop-q in
-    let took = rw c.wait-before.ensures at c.take-called.ensures in
-    rw c.wait-before.ensures (come-level turn.q turn.w c.args.m turn.invariant.0 (omega (arith, c.requires.1, turn.invariant.1)) (omega arith) _ _ took, took.long ∙ turn.invariant.1, sym (took.same _ (omega arith)) ∙ turn.invariant.2, λ a f. come-follows turn.q turn.w c.args.m turn.invariant.0 (omega (arith, c.requires.1, turn.invariant.1)) (omega arith) _ _ took a (turn.invariant.3 a f))
+    let took = rw c.wait-w.ensures at c.take.ensures in
+    rw c.wait-w.ensures (come-level turn.q turn.w c.args.m turn.invariant.0 (omega (arith, c.requires.1, turn.invariant.1)) (omega arith) _ _ took, took.long ∙ turn.invariant.1, sym (took.same _ (omega arith)) ∙ turn.invariant.2, λ a f. come-follows turn.q turn.w c.args.m turn.invariant.0 (omega (arith, c.requires.1, turn.invariant.1)) (omega arith) _ _ took a (turn.invariant.3 a f))
 
 pub wait-requires : goal.wait-requires
 wait-requires c =

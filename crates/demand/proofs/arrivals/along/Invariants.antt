@@ -1,7 +1,7 @@
 use mathlib.Core.Path.{◌≡◌}
 use Prim.Native.Nat.{ℕ, ◌+◌, ◌-◌}
 use lib.ListN.{length}
-use Rattle.walk.specs.Queue.{head, next, to_come}
+use Rattle.walk.specs.Queue.{head, to_come}
 use Rattle.demand.specs.Inside.Arrivals.{Follows, Level}
 use Rattle.demand.proofs.arrivals.along.Given as goal
 
@@ -13,4 +13,4 @@ invariant-loop-q l =
     × ((a : ℕ → ℕ) → Follows a l.initial.q l.initial.w → Follows a l.q l.w)
 
 abbrev pub decreases-loop-q : goal.decreases-loop-q
-decreases-loop-q l = l.m + 1 - next (head l.q)
+decreases-loop-q l = l.m + 1 - (head l.q).next

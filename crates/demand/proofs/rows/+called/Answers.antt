@@ -1,7 +1,8 @@
-use mathlib.Core.Path.{sym}
+use mathlib.Core.Path.{sym, ◌∙◌}
 use native.Mathlib.Omega.{arith}
 use Rattle.demand.specs.Demands.{called_by, called}
 use Rattle.demand.specs.Rows.{row_of}
+use Rattle.demand.proofs.Divide.{div_ceil-ceil}
 use Rattle.demand.proofs.Inside.Sizes.{called-by-most, called-most}
 use Rattle.demand.proofs.Inside.Slices.{part-shorter, total-short, total_head, fair-head, small-part}
 use Rattle.demand.proofs.rows.+called.Goals as goal
@@ -23,32 +24,24 @@ called-rest-requires t c =
     let s = c.args.s.now in
     (omega (arith, part-shorter kind s _ c.width-own.ensures (omega arith)), small-part kind s _ c.head-row.ensures _ c.width-own.ensures _ c.requires)
 
-pub overflow_sub-result : goal.overflow_sub-result
-overflow_sub-result t c =
-    let fair = fair-head c.args.kind c.args.s.now _ c.head-row.ensures _ c.requires in
-    fair.period.least
-
-pub overflow_add-result : goal.overflow_add-result
-overflow_add-result t c =
-    let fair = fair-head c.args.kind c.args.s.now _ c.head-row.ensures _ c.requires in
-    omega (arith, c.requires.ticks, fair.period.most)
-
-pub nonzero_div-result : goal.nonzero_div-result
-nonzero_div-result t c =
-    let fair = fair-head c.args.kind c.args.s.now _ c.head-row.ensures _ c.requires in
-    fair.period.least
+pub div_ceil-requires : goal.div_ceil-requires
+div_ceil-requires t c = (fair-head c.args.kind c.args.s.now _ c.head-row.ensures _ c.requires).period.least
 
 pub overflow_mul-result : goal.overflow_mul-result
 overflow_mul-result t c =
     let fair = fair-head c.args.kind c.args.s.now _ c.head-row.ensures _ c.requires in
-    omega (arith, called-by-most c.args.l (row_of c.head-row.result) c.requires.ticks fair)
+    rw (c.div_ceil.ensures ∙ div_ceil-ceil _ _ fair.period.least) (omega (arith, called-by-most c.args.l (row_of c.head-row.result) c.requires.ticks fair))
 
-pub overflow_add-result-2 : goal.overflow_add-result-2
+pub overflow_add-result : goal.overflow_add-result
 unfolding called
-overflow_add-result-2 t c =
-    omega (arith, total_head c.args.kind c.args.s.now _ c.head-row.ensures _ c.width-own.ensures (called_by c.args.l) _ c.called-rest.ensures, called-most _ _ c.requires)
+overflow_add-result t c =
+    let fair = fair-head c.args.kind c.args.s.now _ c.head-row.ensures _ c.requires in
+    let sum = total_head c.args.kind c.args.s.now _ c.head-row.ensures _ c.width-own.ensures (called_by c.args.l) _ c.called-rest.ensures in
+    rw (c.div_ceil.ensures ∙ div_ceil-ceil _ _ fair.period.least) (omega (arith, sum, called-most _ _ c.requires))
 
 pub returns : goal.returns
 unfolding called
 returns t c =
-    total_head c.args.kind c.args.s.now _ c.head-row.ensures _ c.width-own.ensures (called_by c.args.l) _ c.called-rest.ensures
+    let fair = fair-head c.args.kind c.args.s.now _ c.head-row.ensures _ c.requires in
+    rw (c.div_ceil.ensures ∙ div_ceil-ceil _ _ fair.period.least)
+    (total_head c.args.kind c.args.s.now _ c.head-row.ensures _ c.width-own.ensures (called_by c.args.l) _ c.called-rest.ensures)

@@ -20,5 +20,5 @@ bounds-s-last c =
 
 pub returns : goal.returns
 returns c =
-    head_read c.args.kind _ _ _ _ c.requires c.wide.ensures.0 c.wide-2.ensures.0
-    (c.wide-3.ensures.0 ∙ ap (λ (n : ℕ). get_or c.args.s.now (n - 1) 0) c.width-last.ensures)
+    head_read c.args.kind _ _ _ _ c.requires c.from.ensures c.from-2.ensures
+    (c.from-3.ensures ∙ ap (λ (n : ℕ). get_or c.args.s.now (n - 1) 0) c.width-last.ensures)
