@@ -5,12 +5,13 @@ use native.Mathlib.Nat.{dvd_trans, one-dvd, le_of_dvd}
 use native.Mathlib.Omega.{arith}
 use borrow.Author.Tests.{lt-ltb}
 use Prim.Native.Nat.{ℕ, ◌≤◌, ◌<◌, ◌∣◌}
+use Rattle.std.specs.Prelude.{Option, None, Some}
 use Rattle.demand.specs.Limits.{ticks_most}
-use Rattle.demand.specs.Multiples.{lcm_from, capped, Divided}
+use Rattle.demand.specs.Multiples.{lcm_from, limited, Divided}
 use Rattle.demand.specs.Refusals.{table_refusal}
 use Rattle.demand.specs.Rows.{Row, Positive, tasks_of, handlers_of}
 use Rattle.demand.proofs.Inside.Sizes.{tasks-valid, handlers-positive}
-use Rattle.demand.proofs.Periods.{lcm-from-positive, lcm-from-start, lcm-from-rows, lcm-from-least, lcm-from-le, capped-zero, capped-some}
+use Rattle.demand.proofs.Periods.{lcm-from-positive, lcm-from-start, lcm-from-rows, lcm-from-least, lcm-from-le, limited-none, limited-some}
 use Rattle.demand.proofs.Sums.{each_map, valid-positive}
 use Rattle.verdict.specs.Multiples.{common, CommonLeast}
 
@@ -43,18 +44,21 @@ common-least ts hs pt ph = record {
 
 module _ (t h : List ℕ) (e : table_refusal t h ≡ 0) where
   -- The tasks' multiple above the limit: H is too.
-  pub common-over : 0 ≡ capped (lcm_from 1 (tasks_of t)) → 0 ≡ capped (common (tasks_of t) (handlers_of h))
+  pub common-over : None ≡ limited (lcm_from 1 (tasks_of t)) → None ≡ limited (common (tasks_of t) (handlers_of h))
   unfolding common
   common-over none =
       let some : 0 < lcm_from 1 (tasks_of t) = lcm-from-positive 1 (tasks_of t) (omega arith) (valid-positive (tasks_of t) (tasks-valid t h e)) in
-      let over : ticks_most < lcm_from 1 (tasks_of t) = capped-zero (lcm_from 1 (tasks_of t)) some none in
+      let over : ticks_most < lcm_from 1 (tasks_of t) = limited-none (lcm_from 1 (tasks_of t)) none in
       let whole = lcm-from-le (lcm_from 1 (tasks_of t)) (handlers_of h) some (handlers-positive t h e) in
       rw (lt-ltb ticks_most (lcm_from (lcm_from 1 (tasks_of t)) (handlers_of h)) (omega (arith, whole)))
 
-  module _ (a : ℕ) (some : 0 < a) (ea : a ≡ capped (lcm_from 1 (tasks_of t))) where
-    pub tasks-multiple : a ≤ ticks_most
-    tasks-multiple = let c = capped-some (lcm_from 1 (tasks_of t)) a some ea in omega arith
+  module _ (a : ℕ) (ea : Some a ≡ limited (lcm_from 1 (tasks_of t))) where
+    pub tasks-multiple : (0 < a) × (a ≤ ticks_most)
+    tasks-multiple =
+        let c = limited-some (lcm_from 1 (tasks_of t)) a ea in
+        let some : 0 < lcm_from 1 (tasks_of t) = lcm-from-positive 1 (tasks_of t) (omega arith) (valid-positive (tasks_of t) (tasks-valid t h e)) in
+        (omega (arith, c.0, some), omega (arith, c.0, c.1))
 
-    pub common-read : (r : ℕ) → r ≡ capped (lcm_from a (handlers_of h)) → r ≡ capped (common (tasks_of t) (handlers_of h))
+    pub common-read : (r : Option ℕ) → r ≡ limited (lcm_from a (handlers_of h)) → r ≡ limited (common (tasks_of t) (handlers_of h))
     unfolding common
-    common-read r er = er ∙ ap (λ (m : ℕ). capped (lcm_from m (handlers_of h))) (capped-some (lcm_from 1 (tasks_of t)) a some ea).0
+    common-read r er = er ∙ ap (λ (m : ℕ). limited (lcm_from m (handlers_of h))) (limited-some (lcm_from 1 (tasks_of t)) a ea).0

@@ -4,6 +4,7 @@ use mathlib.Core.Logic.{inl, inr}
 use mathlib.Core.Path.{◌≡◌, refl}
 use native.Mathlib.Omega.{arith}
 use Prim.Native.Nat.{ℕ, ◌≤◌}
+use Rattle.std.specs.Prelude.{Result}
 use Rattle.demand.specs.Demands.{called, grow, taken, handled, due}
 use Rattle.demand.specs.Lighter.{Lighter}
 use Rattle.demand.specs.Lighter.Lighter.{none, dropped, eased}
@@ -12,6 +13,7 @@ use Rattle.demand.specs.Refusals.{table_tests}
 use Rattle.demand.specs.Rows.{Row, tasks_of, handlers_of, total, some}
 use Rattle.demand.specs.Tests.{first_refusal}
 use Rattle.demand.proofs.Lighter.{called-lighter, due-lighter}
+use Rattle.demand.specs.declared.refusal.Refusal.{Refusal}
 use Rattle.euclid.specs.Euclid.{gcd, lcm, euclid}
 use Rattle.verdict.specs.Full.{LoadTells}
 use Rattle.verdict.specs.Lengths.{TestLength, AlwaysPasses}
@@ -57,13 +59,13 @@ passes =
     (λ l from within. short-zero (tasks_of tasks) (handlers_of handlers) 20 nothing-lacks l from (omega (arith, h-is)))
 
 -- Whatever the promise allows here is a yes.
-pub yes-here : (r : Answer) → VerdictSays tasks handlers r → (figures r).word ≡ fits
+pub yes-here : (r : Result Answer Refusal) → VerdictSays tasks handlers r → (figures r).word ≡ fits
 unfolding VerdictSays
 yes-here r says = only-fits tasks handlers (figures r) readable passes says
 
 -- What a table under less is told.
 abbrev StaysYes : List ℕ → List ℕ → Type 0
-StaysYes t h = (r s : Answer) → VerdictSays tasks handlers r → VerdictSays t h s → (figures s).word ≡ fits
+StaysYes t h = (r s : Result Answer Refusal) → VerdictSays tasks handlers r → VerdictSays t h s → (figures s).word ≡ fits
 
 stays : (t h : List ℕ) → Lighter (tasks_of t) (tasks_of tasks) → Lighter (handlers_of h) (handlers_of handlers) → verdict_refusal t h ≡ 0 → StaysYes t h
 unfolding YesUnderLess
@@ -207,14 +209,14 @@ unfolding whole work common lcm_from lcm gcd euclid total tasks_of handlers_of
 full-2 = (refl, refl)
 
 -- One million is said of no more than full, ..
-pub million-is-full : (r : Answer) → VerdictSays tasks-2 handlers-2 r → (figures r).load ≡ 1000000 → whole (tasks_of tasks-2) (handlers_of handlers-2) ≤ 4
+pub million-is-full : (r : Result Answer Refusal) → VerdictSays tasks-2 handlers-2 r → (figures r).load ≡ 1000000 → whole (tasks_of tasks-2) (handlers_of handlers-2) ≤ 4
 unfolding LoadTells
 million-is-full r says said =
     let told : whole (tasks_of tasks-2) (handlers_of handlers-2) ≤ common (tasks_of tasks-2) (handlers_of handlers-2) = (load-tells tasks-2 handlers-2 r says readable-2).0 (omega arith) in
     omega (arith, told, full-2.1)
 
 -- .. and of full no more than one million.
-pub full-is-million : (r : Answer) → VerdictSays tasks-2 handlers-2 r → (figures r).load ≤ 1000000
+pub full-is-million : (r : Result Answer Refusal) → VerdictSays tasks-2 handlers-2 r → (figures r).load ≤ 1000000
 unfolding LoadTells
 full-is-million r says = (load-tells tasks-2 handlers-2 r says readable-2).1 (omega (arith, full-2.0, full-2.1))
 
@@ -231,7 +233,7 @@ over-100 : (whole (tasks_of tasks-100) (handlers_of []) ≡ 999999001) × (commo
 unfolding whole work common lcm_from lcm gcd euclid total tasks_of handlers_of
 over-100 = (refl, refl)
 
-pub over-is-above : (r : Answer) → VerdictSays tasks-100 [] r → (figures r).load ≤ 1000000 → ⊥
+pub over-is-above : (r : Result Answer Refusal) → VerdictSays tasks-100 [] r → (figures r).load ≤ 1000000 → ⊥
 unfolding LoadTells
 over-is-above r says few =
     let told : whole (tasks_of tasks-100) (handlers_of []) ≤ common (tasks_of tasks-100) (handlers_of []) = (load-tells tasks-100 [] r says readable-100).0 few in

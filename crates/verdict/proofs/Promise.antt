@@ -4,7 +4,10 @@ use mathlib.Core.Path.{◌≡◌, refl, ap, sym, ◌∙◌}
 use native.Mathlib.Omega.{arith}
 use Prim.Native.Nat.{ℕ}
 use lib.ListN.{get_or}
+use Rattle.std.specs.Prelude.{Result, Ok, Err}
+use Rattle.demand.proofs.Numbered.{number-once}
 use Rattle.demand.specs.Rows.{tasks_of, handlers_of}
+use Rattle.demand.specs.declared.refusal.Refusal.{Refusal}
 use Rattle.verdict.specs.Loads.{load}
 use Rattle.verdict.specs.Promise.{Word, Figures, figures, yes_of, no_of, numbers_of, miss_at, SaysFits, SaysMisses, SaysRefused, SaysBy, Says, VerdictSays}
 use Rattle.verdict.specs.Promise.Word.{fits, misses, refused}
@@ -75,18 +78,18 @@ says-unique t h f g = go f.word g.word refl refl
 -- ---- one answer
 
 -- Answers with the same figures are the same.
-pub figures-once : (r s : Answer) → figures r ≡ figures s → r ≡ s
+pub figures-once : (r s : Result Answer Refusal) → figures r ≡ figures s → r ≡ s
 unfolding figures
-figures-once (answer.Fits l n) (answer.Fits m o) e = λ i. answer.Fits (e i).load (e i).tested
-figures-once (answer.Fits l n) (answer.Misses a m) e = cc (ap (λ (f : Figures). f.word) e)
-figures-once (answer.Fits l n) (answer.Refused k) e = cc (ap (λ (f : Figures). f.word) e)
-figures-once (answer.Misses a l) (answer.Fits m o) e = cc (ap (λ (f : Figures). f.word) e)
-figures-once (answer.Misses a l) (answer.Misses b m) e =
-    λ i. answer.Misses (record { interval = (e i).interval; handler = (e i).handler; task = (e i).task; left = (e i).left; tested = (e i).tested }) (e i).load
-figures-once (answer.Misses a l) (answer.Refused k) e = cc (ap (λ (f : Figures). f.word) e)
-figures-once (answer.Refused k) (answer.Fits m o) e = cc (ap (λ (f : Figures). f.word) e)
-figures-once (answer.Refused k) (answer.Misses b m) e = cc (ap (λ (f : Figures). f.word) e)
-figures-once (answer.Refused k) (answer.Refused m) e = ap answer.Refused (ap (λ (f : Figures). f.code) e)
+figures-once (Ok (answer.Fits l n)) (Ok (answer.Fits m o)) e = λ i. Ok (answer.Fits (e i).load (e i).tested)
+figures-once (Ok (answer.Fits l n)) (Ok (answer.Misses a m)) e = cc (ap (λ (f : Figures). f.word) e)
+figures-once (Ok (answer.Fits l n)) (Err k) e = cc (ap (λ (f : Figures). f.word) e)
+figures-once (Ok (answer.Misses a l)) (Ok (answer.Fits m o)) e = cc (ap (λ (f : Figures). f.word) e)
+figures-once (Ok (answer.Misses a l)) (Ok (answer.Misses b m)) e =
+    λ i. Ok (answer.Misses (record { interval = (e i).interval; handler = (e i).handler; task = (e i).task; left = (e i).left; tested = (e i).tested }) (e i).load)
+figures-once (Ok (answer.Misses a l)) (Err k) e = cc (ap (λ (f : Figures). f.word) e)
+figures-once (Err k) (Ok (answer.Fits m o)) e = cc (ap (λ (f : Figures). f.word) e)
+figures-once (Err k) (Ok (answer.Misses b m)) e = cc (ap (λ (f : Figures). f.word) e)
+figures-once (Err k) (Err m) e = ap Err (number-once k m (ap (λ (f : Figures). f.code) e))
 
 pub verdict-unique : VerdictUnique
 unfolding VerdictSays

@@ -6,17 +6,20 @@ use native.Mathlib.Nat.{mul-le-mul}
 use native.Mathlib.Omega.{arith}
 use lib.Dec.{ltb}
 use Prim.Native.Nat.{ℕ, ◌+◌, ◌*◌, ◌≤◌, ◌<◌, min}
+use Rattle.std.specs.Prelude.{Ok, Err, None, Some}
+use Rattle.demand.proofs.Numbered.{number-pos}
 use Rattle.demand.specs.Limits.{ticks_most}
+use Rattle.demand.specs.Numbered.{number_of}
 use Rattle.demand.specs.Refusals.{InRange, table_refusal}
 use Rattle.demand.specs.Rows.{Row, tasks_of, handlers_of}
-use Rattle.demand.proofs.Inside.Sizes.{tasks-valid, handlers-positive}
-use Rattle.demand.proofs.Sums.{valid-positive}
 use Rattle.demand.specs.Tests.{pick}
+use Rattle.demand.specs.declared.refusal.Refusal.{Refusal}
+use Rattle.demand.specs.declared.refusal.Refusal.TheVariants.{MultipleTooLarge}
 use Rattle.verdict.specs.Idle.{Idle, IdleBy}
 use Rattle.verdict.specs.Inside.Search.{FoundAt, Through, FoundSays, end_by, search_end}
 use Rattle.verdict.specs.Facts.{bound}
 use Rattle.verdict.specs.Loads.{work, whole, costs, slack, millionths, load, work_most}
-use Rattle.demand.specs.Multiples.{capped}
+use Rattle.demand.specs.Multiples.{limited}
 use Rattle.verdict.specs.Multiples.{common}
 use Rattle.verdict.specs.Promise.{figures, yes_of, no_of, refusal_of, verdict_refusal, SaysBy, Says, VerdictSays}
 use Rattle.verdict.specs.Lengths.{AlwaysPasses}
@@ -25,11 +28,10 @@ use Rattle.verdict.specs.declared.Answer.TheVariants as answer
 use Rattle.verdict.specs.declared.Miss.{Miss}
 use Rattle.verdict.specs.declared.search.Found.{Found}
 use Rattle.verdict.specs.declared.search.Found.TheVariants as found
-use Rattle.verdict.proofs.Divisors.{common-positive}
 use Rattle.verdict.proofs.Facts.Ends.{end-le}
 use Rattle.verdict.proofs.Idle.{idle-where, looked-enough}
 use Rattle.verdict.proofs.YesEnds.{fits-light, yes-end-read}
-use Rattle.demand.proofs.Periods.{capped-zero, capped-some}
+use Rattle.demand.proofs.Periods.{limited-none, limited-some}
 use Rattle.verdict.proofs.Loads.{work-most, costs-most, slack-most}
 use Rattle.verdict.proofs.Readable.{readable-in-range, readable-common, readable-zero, common-small, refused-4, refused-table}
 
@@ -74,30 +76,30 @@ module _ (t h : List ℕ) (readable : verdict_refusal t h ≡ 0) (m : ℕ) (em :
 -- ---- the three answers
 
 module _ (t h : List ℕ) where
-  pub says-refused : (number : ℕ) → number ≡ table_refusal t h → 0 < number → VerdictSays t h (answer.Refused number)
+  pub says-refused : (k : Refusal) → number_of k ≡ table_refusal t h → VerdictSays t h (Err k)
   unfolding VerdictSays Says SaysBy figures
-  says-refused number e some =
+  says-refused k e =
+      let some = number-pos k in
       let same = refused-table t h (omega arith) in
       record { unreadable = omega (arith, same); figures = ap refusal_of (e ∙ sym same) }
 
   module _ (e : table_refusal t h ≡ 0) where
-    pub says-refused-4 : (m : ℕ) → m ≡ capped (common (tasks_of t) (handlers_of h)) → m ≡ 0 → VerdictSays t h (answer.Refused 4)
+    pub says-refused-4 : None ≡ limited (common (tasks_of t) (handlers_of h)) → VerdictSays t h (Err MultipleTooLarge)
     unfolding VerdictSays Says SaysBy figures
-    says-refused-4 m em none =
-        let pos = common-positive (tasks_of t) (handlers_of h) (valid-positive (tasks_of t) (tasks-valid t h e)) (handlers-positive t h e) in
-        let four = refused-4 t h e (capped-zero (common (tasks_of t) (handlers_of h)) pos (sym none ∙ em)) in
+    says-refused-4 none =
+        let four = refused-4 t h e (limited-none (common (tasks_of t) (handlers_of h)) none) in
         record { unreadable = omega (arith, four); figures = ap refusal_of (sym four) }
 
-    pub says-readable : (m : ℕ) → m ≡ capped (common (tasks_of t) (handlers_of h)) → 0 < m → (verdict_refusal t h ≡ 0) × (m ≡ common (tasks_of t) (handlers_of h))
-    says-readable m em some =
-        let within = capped-some (common (tasks_of t) (handlers_of h)) m some em in
+    pub says-readable : (m : ℕ) → Some m ≡ limited (common (tasks_of t) (handlers_of h)) → (verdict_refusal t h ≡ 0) × (m ≡ common (tasks_of t) (handlers_of h))
+    says-readable m em =
+        let within = limited-some (common (tasks_of t) (handlers_of h)) m em in
         (readable-zero t h e within.1, within.0)
 
   module _ (readable : verdict_refusal t h ≡ 0) (l n : ℕ) (el : l ≡ load (tasks_of t) (handlers_of h)) (en : n ≡ search_end (tasks_of t) (handlers_of h))
       (looks : Bool) where
     -- The idle point is looked for where W is below H: there is one.
     pub says-fits : ltb (whole (tasks_of t) (handlers_of h)) (common (tasks_of t) (handlers_of h)) ≡ looks → (r : Found) (k : ℕ)
-        → FoundSays (tasks_of t) (handlers_of h) n looks r → r ≡ found.Nothing k → VerdictSays t h (answer.Fits l k)
+        → FoundSays (tasks_of t) (handlers_of h) n looks r → r ≡ found.Nothing k → VerdictSays t h (Ok (answer.Fits l k))
     unfolding VerdictSays Says SaysBy figures FoundSays
     says-fits light r k says e = record {
       readable = readable;
@@ -128,7 +130,7 @@ module _ (t h : List ℕ) where
         by : IdleBy ts hs (common ts hs)
         by = (idle-where ts hs range).light (fits-light ts hs range passes)
 
-    pub says-misses : (r : Found) (m : Miss) → FoundSays (tasks_of t) (handlers_of h) n looks r → r ≡ found.At m → VerdictSays t h (answer.Misses m l)
+    pub says-misses : (r : Found) (m : Miss) → FoundSays (tasks_of t) (handlers_of h) n looks r → r ≡ found.At m → VerdictSays t h (Ok (answer.Misses m l))
     unfolding VerdictSays Says SaysBy figures FoundSays
     says-misses r m says e =
         let at : FoundAt (tasks_of t) (handlers_of h) n m = subst (FoundSays (tasks_of t) (handlers_of h) n looks) e says in

@@ -5,9 +5,10 @@
 --   dye_house          == the table of M-100, whose load is the first above one million
 --   CaseHolds c       the verdict's promise holds of these figures, whatever it allows has them, and what is told beside them is so
 --   EveryCase cs      each case of the list holds
-use Rattle.std.specs.Prelude.{List, [], ◌∷◌, ◌≡◌, ℕ, ℤ, negsuc}
+use Rattle.std.specs.Prelude.{List, [], ◌∷◌, ◌≡◌, ℕ, ℤ, negsuc, Result}
 use Rattle.demand.specs.Demands.{called, handled, left, margin}
 use Rattle.demand.specs.Rows.{Row, tasks_of, handlers_of}
+use Rattle.demand.specs.declared.refusal.Refusal.{Refusal}
 use Rattle.verdict.specs.Multiples.{common}
 use Rattle.verdict.specs.Promise.{Figures, figures, yes_of, no_of, refusal_of, Says, VerdictSays}
 use Rattle.verdict.specs.Tested.{tested}
@@ -106,7 +107,7 @@ EveryFact ts hs (f ∷ fs) = FactHolds ts hs f × EveryFact ts hs fs
 
 pub record CaseHolds (c : Case) : Type 0 where
   pub holds : Says c.tasks c.handlers c.sheet
-  pub only : (r : Answer) → VerdictSays c.tasks c.handlers r → figures r ≡ c.sheet
+  pub only : (r : Result Answer Refusal) → VerdictSays c.tasks c.handlers r → figures r ≡ c.sheet
   pub facts : EveryFact (tasks_of c.tasks) (handlers_of c.handlers) c.beside
 
 abbrev pub EveryCase : List Case → Type 0

@@ -6,12 +6,14 @@
 --   answer_numbers r      == those of an answer, behind the number of its word
 --   miss_at ts hs l       == what is told of an interval of l ticks that fails
 --   VerdictSays t h r    r is the answer to the table t, h
-use Rattle.std.specs.Prelude.{List, [], ◌∷◌, ◌++◌, ◌≡◌, ℕ, ◌<◌, ltb}
+use Rattle.std.specs.Prelude.{List, [], ◌∷◌, ◌++◌, ◌≡◌, ℕ, ◌<◌, ltb, Result, Ok, Err}
 use Rattle.demand.specs.Demands.{handled, left, due}
 use Rattle.demand.specs.Limits.{ticks_most}
+use Rattle.demand.specs.Numbered.{number_of}
 use Rattle.demand.specs.Refusals.{table_tests}
 use Rattle.demand.specs.Rows.{Row, tasks_of, handlers_of}
 use Rattle.demand.specs.Tests.{first_refusal}
+use Rattle.demand.specs.declared.refusal.Refusal.{Refusal}
 use Rattle.verdict.specs.Lengths.{AlwaysPasses, LeastFailing}
 use Rattle.verdict.specs.Loads.{load}
 use Rattle.verdict.specs.Multiples.{common}
@@ -62,10 +64,10 @@ no_of miss load = record {
 abbrev pub refusal_of : ℕ → Figures
 refusal_of number = record { word = refused; code = number; interval = 0; handler = 0; task = 0; load = 0; left = 0; tested = 0 }
 
-unfoldable pub figures : Answer → Figures
-figures (answer.Fits load tested) = yes_of load tested
-figures (answer.Misses miss load) = no_of miss load
-figures (answer.Refused number) = refusal_of number
+unfoldable pub figures : Result Answer Refusal → Figures
+figures (Ok (answer.Fits load tested)) = yes_of load tested
+figures (Ok (answer.Misses miss load)) = no_of miss load
+figures (Err e) = refusal_of (number_of e)
 
 -- the numbers of a line, in its order; for those who read numbers alone that of the word stands before them
 abbrev pub numbers_of : Figures → List ℕ
@@ -76,7 +78,7 @@ word_number fits = 0
 word_number misses = 1
 word_number refused = 2
 
-abbrev pub answer_numbers : Answer → List ℕ
+abbrev pub answer_numbers : Result Answer Refusal → List ℕ
 answer_numbers r = word_number (figures r).word ∷ numbers_of (figures r)
 
 -- What is told of an interval that fails: its length, both demands there, the handlers' work left over (02, M-106), and how many lengths
@@ -112,5 +114,5 @@ SaysBy refused t h g = SaysRefused t h g
 unfoldable pub Says : List ℕ → List ℕ → Figures → Type 0
 Says t h g = SaysBy g.word t h g
 
-unfoldable pub VerdictSays : List ℕ → List ℕ → Answer → Type 0
+unfoldable pub VerdictSays : List ℕ → List ℕ → Result Answer Refusal → Type 0
 VerdictSays t h r = Says t h (figures r)

@@ -6,16 +6,18 @@ mod load;
 pub mod multiples;
 mod search;
 
-ghost use Rattle.std.specs.Prelude.{◌≡◌};
+ghost use Rattle.std.specs.Prelude.{◌≡◌, Ok};
 ghost use Rattle.verdict.specs.Multiples.{common};
 ghost use Rattle.verdict.specs.Promise.{verdict_refusal, answer_numbers, VerdictSays};
 ghost use Rattle.demand.specs.Rows.{tasks_of, handlers_of};
 
+use demand::refusal;
+use demand::refusal::Refusal;
 use demand::table::Kind;
 use search::Found;
 
 // The shortest interval that fails, with both demands there, the work that handlers leave over and how many lengths were tested.
-#[derive(Clone, Copy)]
+#[derive(Clone, Copy, Debug, PartialEq, Eq)]
 pub struct Miss {
     pub interval: u64,
     pub handler: u64,
@@ -24,24 +26,23 @@ pub struct Miss {
     pub tested: u64,
 }
 
-// Fits, with how many lengths were tested; misses at the shortest interval that fails; or the number of the refusal.
-#[derive(Clone, Copy)]
+// Fits, with how many lengths were tested; or misses at the shortest interval that fails.
+#[derive(Clone, Copy, Debug, PartialEq, Eq)]
 pub enum Answer {
     Fits { load: u64, tested: u64 },
     Misses { miss: Miss, load: u64 },
-    Refused { number: u32 },
 }
 
 // How many numbers tell an answer.
 pub const NUMBERS: usize = 8;
 
 // The numbers of an answer: that of its word (0 fits, 1 misses, 2 refused), then those of the printed line.
-pub fn numbers(answer: Answer) -> [u64; NUMBERS]
+pub fn numbers(answer: Result<Answer, Refusal>) -> [u64; NUMBERS]
     ensures { result ≡ answer_numbers answer }
 {
     match answer {
-        Answer::Fits { load, tested } => [0, 0, 0, 0, 0, load, 0, tested],
-        Answer::Misses { miss, load } => [
+        Ok(Answer::Fits { load, tested }) => [0, 0, 0, 0, 0, load, 0, tested],
+        Ok(Answer::Misses { miss, load }) => [
             1,
             0,
             miss.interval,
@@ -51,36 +52,31 @@ pub fn numbers(answer: Answer) -> [u64; NUMBERS]
             miss.left,
             miss.tested,
         ],
-        Answer::Refused { number } => [2, number as u64, 0, 0, 0, 0, 0, 0],
+        Err(refusal) => [2, u64::from(refusal.number()), 0, 0, 0, 0, 0, 0],
     }
 }
 
 // The verdict: Fits exactly when every interval length from 1 up passes, with no upper end.
-pub fn verdict(tasks: &[u32], handlers: &[u32]) -> Answer
+pub fn verdict(tasks: &[u32], handlers: &[u32]) -> Result<Answer, Refusal>
     ensures { VerdictSays tasks.now handlers.now result }
 {
-    let number = demand::refusal::of_table(tasks, handlers);
-    if 0 < number {
-        return Answer::Refused { number };
+    refusal::of_table(tasks, handlers)?;
+    match multiples::of_table(tasks, handlers) {
+        Some(h) => Ok(judged(tasks, handlers, h)),
+        None => Err(Refusal::MultipleTooLarge),
     }
-    let h = multiples::of_table(tasks, handlers);
-    if h == 0 {
-        return Answer::Refused { number: 4 };
-    }
-    judged(tasks, handlers, h)
 }
 
 // The verdict on a readable table, whose H is h.
 fn judged(tasks: &[u32], handlers: &[u32], h: u64) -> Answer
     requires { (verdict_refusal tasks.now handlers.now ≡ 0) × (h ≡ common (tasks_of tasks.now) (handlers_of handlers.now)) }
-    ensures { VerdictSays tasks.now handlers.now result }
+    ensures { VerdictSays tasks.now handlers.now (Ok result) }
 {
     let w = load::work(Kind::Task, tasks, h) + load::work(Kind::Handler, handlers, h);
     let load = load::of_work(w, h);
     let bound = load::costs(handlers) * h + load::slack(tasks, h);
     let end = search::end_of(h, w, bound);
-    let found = search::first_failing(tasks, handlers, end, w < h);
-    match found {
+    match search::first_failing(tasks, handlers, end, w < h) {
         Found::At { miss } => Answer::Misses { miss, load },
         Found::Nothing { tested } => Answer::Fits { load, tested },
     }

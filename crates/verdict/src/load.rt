@@ -60,5 +60,5 @@ pub fn of_work(w: u64, h: u64) -> u64
 {
     let q = w / h;
     let r = w % h;
-    MILLION * q + (MILLION * r + (h - 1)) / h
+    MILLION * q + (MILLION * r).div_ceil(h)
 }

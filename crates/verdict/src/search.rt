@@ -12,6 +12,7 @@ use crate::{Miss, drain};
 use demand::events::Event;
 use demand::table::{HANDLERS_MOST, Kind, TASKS_MOST};
 use demand::{arrivals, events};
+use walk::Entry;
 
 // The shortest interval that fails, or that there is none, with how many lengths were tested.
 #[derive(Clone, Copy)]
@@ -30,8 +31,7 @@ pub fn end_of(h: u64, w: u64, bound: u64) -> u64
     if bound == 0 {
         return 0;
     }
-    let last = (bound - 1) / (h - w);
-    if last < h { last } else { h }
+    ((bound - 1) / (h - w)).min(h)
 }
 
 // How far to look for the idle point before an interval of n ticks is tested.
@@ -46,10 +46,10 @@ fn sight(looks: bool, n: u64) -> u64
 fn search(
     tasks: &[u32],
     handlers: &[u32],
-    t: &mut [[u64; 3]],
-    h: &mut [[u64; 3]],
-    a: &mut [[u64; 3]],
-    b: &mut [[u64; 3]],
+    t: &mut [Entry],
+    h: &mut [Entry],
+    a: &mut [Entry],
+    b: &mut [Entry],
     end: u64,
     looks: bool,
 ) -> Found
@@ -62,8 +62,8 @@ fn search(
     let mut p = arrivals::start();
     let mut asked = drain::take_to(a, b, 0, 1);
     let mut tested = 0;
-    while t[0][0] <= end {
-        let n = t[0][0];
+    while t[0].next <= end {
+        let n = t[0].next;
         let seen = sight(looks, n);
         asked = drain::climb(a, b, asked, seen);
         if asked < seen {
@@ -91,10 +91,10 @@ pub fn first_failing(tasks: &[u32], handlers: &[u32], end: u64, looks: bool) -> 
     requires { (table_refusal tasks.now handlers.now ≡ 0) × (end ≤ ticks_most) }
     ensures { FoundSays (tasks_of tasks.now) (handlers_of handlers.now) end looks result }
 {
-    let mut t = [[0u64; 3]; TASKS_MOST];
-    let mut h = [[0u64; 3]; HANDLERS_MOST];
-    let mut a = [[0u64; 3]; TASKS_MOST];
-    let mut b = [[0u64; 3]; HANDLERS_MOST];
+    let mut t = [Entry::NONE; TASKS_MOST];
+    let mut h = [Entry::NONE; HANDLERS_MOST];
+    let mut a = [Entry::NONE; TASKS_MOST];
+    let mut b = [Entry::NONE; HANDLERS_MOST];
     let i = events::begin(Kind::Task, Event::Deadline, tasks, &mut t);
     let j = events::begin(Kind::Handler, Event::Arrival, handlers, &mut h);
     let k = events::begin(Kind::Task, Event::Arrival, tasks, &mut a);

@@ -5,7 +5,7 @@ use mathlib.Core.Path.{◌≡◌, refl, ◌∙◌}
 use native.Mathlib.Omega.{arith}
 use Prim.Native.Nat.{ℕ, ◌+◌, ◌≤◌, ◌<◌}
 use lib.ListN.{length}
-use Rattle.walk.specs.Queue.{Entry, CanTakeTo, Taken}
+use Rattle.walk.specs.Queue.{CanTakeTo, Taken}
 use Rattle.walk.proofs.Queue.{come-none, come-mono}
 use Rattle.demand.specs.Inside.Events.{Begun}
 use Rattle.demand.specs.Inside.Sizes.{due_most, Small}
@@ -19,6 +19,7 @@ use Rattle.demand.proofs.Inside.Sizes.{fair-positive, called-most}
 use Rattle.verdict.specs.Idle.{asks, Idle}
 use Rattle.verdict.specs.Inside.Drain.{both_come, CanTakeBoth, TakenBoth, Asked, CanClimb, Climbed, Looking}
 use Rattle.verdict.proofs.Idle.{asks-called, asks-some}
+use Rattle.walk.specs.declared.Entry.{Entry}
 
 -- ---- two queues
 

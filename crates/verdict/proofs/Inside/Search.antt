@@ -7,7 +7,7 @@ use native.Mathlib.Omega.{arith}
 use Prim.Native.Nat.{ℕ, zero, suc, ◌+◌, ◌-◌, ◌^◌, ◌≤◌, ◌<◌, min}
 use lib.ListN.{length, take, drop, length-drop}
 use lib.Seq.{take_all}
-use Rattle.walk.specs.Queue.{Entry, head, next, to_come, CanTake, Taken}
+use Rattle.walk.specs.Queue.{head, to_come, CanTake, Taken}
 use Rattle.walk.proofs.Queue.{ahead-head, come-none, come-before}
 use Rattle.walk.proofs.Taking.{come-some}
 use Rattle.demand.specs.Demands.{called, handled, left, due, Passes}
@@ -35,6 +35,7 @@ use Rattle.verdict.specs.Tested.{tested}
 use Rattle.verdict.specs.declared.search.Found.TheVariants.{Nothing}
 use Rattle.verdict.proofs.Idle.{idle-unique}
 use Rattle.verdict.proofs.Tested.{tested-zero, tested-flat, tested-due, tested-le-end}
+use Rattle.walk.specs.declared.Entry.{Entry}
 
 -- The idle point is looked for within the limit.
 pub sight-most : (looks : Bool) (n s : ℕ) → n ≤ ticks_most → s ≡ pick looks n 0 → s ≤ ticks_most
@@ -68,7 +69,7 @@ searched-start ts hs t h p range deadlines arrivals e =
     })
 
 module _ (ts hs : List Row) (range : InRange ts hs) (t h : List Entry) (p : Progress) (d k : ℕ) (so_far : Searched ts hs t h p d k) where
-  pub next-above : p.at < next (head t)
+  pub next-above : p.at < (head t).next
   next-above = ahead-head t p.at so_far.some so_far.tasks-ahead
 
   passes-here : Passes ts hs p.at
@@ -79,7 +80,7 @@ module _ (ts hs : List Row) (range : InRange ts hs) (t h : List Entry) (p : Prog
       go (suc l) passed = passed (suc l) (omega arith) (omega arith)
 
   -- D stays up to the next deadline,
-  still : (x : ℕ) → p.at ≤ x → x < next (head t) → due ts (p.at + (x - p.at)) ≡ due ts p.at
+  still : (x : ℕ) → p.at ≤ x → x < (head t).next → due ts (p.at + (x - p.at)) ≡ due ts p.at
   still x from m =
       let e : p.at + (x - p.at) ≡ x = omega arith in
       rw e
@@ -92,7 +93,7 @@ module _ (ts hs : List Row) (range : InRange ts hs) (t h : List Entry) (p : Prog
       ))
 
   -- so every length before it passes
-  before-next : (x : ℕ) → 1 ≤ x → x < next (head t) → Passes ts hs x
+  before-next : (x : ℕ) → 1 ≤ x → x < (head t).next → Passes ts hs x
   before-next x from m = go (le-or-lt x p.at)
     where
       go : (x ≤ p.at) ⊎ (p.at < x) → Passes ts hs x
@@ -102,7 +103,7 @@ module _ (ts hs : List Row) (range : InRange ts hs) (t h : List Entry) (p : Prog
           rw e at (passes-flat ts hs p.at (x - p.at) (still x (omega arith) m) passes-here)
 
   -- and is no test length.
-  count-before : (x : ℕ) → p.at ≤ x → x < next (head t) → k ≡ tested ts x
+  count-before : (x : ℕ) → p.at ≤ x → x < (head t).next → k ≡ tested ts x
   count-before x from m =
       let e : p.at + (x - p.at) ≡ x = omega arith in
       so_far.count ∙ sym (rw e at (tested-flat ts range.tasks range.deadlines p.at (x - p.at) (still x from m)))
@@ -112,7 +113,7 @@ module _ (ts hs : List Row) (range : InRange ts hs) (t h : List Entry) (p : Prog
   count_most = omega (arith, so_far.count, tested-le-end ts p.at)
 
   -- No deadline is left up to end: all has passed. Where the idle point is looked for, it is not before the last deadline.
-  pub passes-out : (looks : Bool) (w end : ℕ) → p.at ≤ end → end < next (head t) → pick looks p.at 0 ≤ w → ((z : ℕ) → Idle ts hs z → w ≤ z)
+  pub passes-out : (looks : Bool) (w end : ℕ) → p.at ≤ end → end < (head t).next → pick looks p.at 0 ≤ w → ((z : ℕ) → Idle ts hs z → w ≤ z)
       → FoundSays ts hs end looks (Nothing k)
   unfolding FoundSays
   passes-out false w end reached m low above = λ z point. record {
@@ -128,7 +129,7 @@ module _ (ts hs : List Row) (range : InRange ts hs) (t h : List Entry) (p : Prog
       }
 
   -- All has drained before the next deadline: no length up to the idle point fails.
-  pub passes-drained : (looks : Bool) (s w end n : ℕ) → n ≡ pick looks (next (head t)) 0 → p.at ≤ end → pick looks p.at 0 ≤ s → s ≤ w → w < n
+  pub passes-drained : (looks : Bool) (s w end n : ℕ) → n ≡ pick looks (head t).next 0 → p.at ≤ end → pick looks p.at 0 ≤ s → s ≤ w → w < n
       → (w < n → Idle ts hs w) → FoundSays ts hs end looks (Nothing k)
   unfolding FoundSays
   passes-drained false s w end n e reached low up below idle = absurd (omega arith)
@@ -140,7 +141,7 @@ module _ (ts hs : List Row) (range : InRange ts hs) (t h : List Entry) (p : Prog
         count = count-before (min z end) (omega (arith, same)) (omega (arith, same));
       }
 
-  module _ (n : ℕ) (here : n ≡ next (head t)) (fits : n ≤ ticks_most) where
+  module _ (n : ℕ) (here : n ≡ (head t).next) (fits : n ≤ ticks_most) where
     pub search-level : Level h p n
     search-level =
         let small : Small hs n = record { rows = range.handlers; count = omega (arith, range.handlers-most); ticks = fits } in
@@ -167,7 +168,7 @@ module _ (ts hs : List Row) (range : InRange ts hs) (t h : List Entry) (p : Prog
       fits = omega (arith, due-here, ap (to_come t) here, due-most ts n small-here);
     }
 
-    module _ (h' : List Entry) (w : Progress) (come : Come h p n h' w) (t' : List Entry) (e : ℕ) (took : Taken (next (head t)) t d t' e) where
+    module _ (h' : List Entry) (w : Progress) (come : Come h p n h' w) (t' : List Entry) (e : ℕ) (took : Taken (head t).next t d t' e) where
       search-handled : w.taken ≡ handled hs n
       search-handled = follows-handled hs h' w (come.follows (called hs) so_far.follows) ∙ ap (handled hs) come.at
 

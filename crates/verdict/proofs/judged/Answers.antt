@@ -35,8 +35,8 @@ pub overflow_add-bound : goal.overflow_add-bound
 overflow_add-bound c =
     omega (arith, bound-fits _ _ c.requires.0 c.args.h c.requires.1 _ _ c.costs.ensures c.slack.ensures)
 
-pub first_failing-found-requires : goal.first_failing-found-requires
-first_failing-found-requires c =
+pub first_failing-requires : goal.first_failing-requires
+first_failing-requires c =
     let end = end_read _ _ _ _ _ c.requires.1 c.work.ensures c.work-2.ensures _ _ _ c.costs.ensures c.slack.ensures c.end_of-end.ensures in
     (readable-table _ _ c.requires.0, end_fits _ _ c.requires.0 _ c.requires.1 _ end)
 
@@ -46,7 +46,7 @@ returns-in-At c =
     let handlers = c.work-2.ensures in
     let load = load_read _ _ _ _ _ c.requires.1 tasks handlers _ c.of_work-load.ensures in
     let end = end_read _ _ _ _ _ c.requires.1 tasks handlers _ _ _ c.costs.ensures c.slack.ensures c.end_of-end.ensures in
-    says-misses _ _ c.requires.0 _ _ load end _ _ _ c.first_failing-found.ensures c.in-At.is
+    says-misses _ _ c.requires.0 _ _ load end _ _ _ c.first_failing.ensures c.in-At.is
 
 pub returns-in-Nothing : goal.returns-in-Nothing
 returns-in-Nothing c =
@@ -54,4 +54,4 @@ returns-in-Nothing c =
     let handlers = c.work-2.ensures in
     let load = load_read _ _ _ _ _ c.requires.1 tasks handlers _ c.of_work-load.ensures in
     let end = end_read _ _ _ _ _ c.requires.1 tasks handlers _ _ _ c.costs.ensures c.slack.ensures c.end_of-end.ensures in
-    says-fits _ _ c.requires.0 _ _ load end _ (looks-read _ _ _ _ _ c.requires.1 tasks handlers) _ _ c.first_failing-found.ensures c.in-Nothing.is
+    says-fits _ _ c.requires.0 _ _ load end _ (looks-read _ _ _ _ _ c.requires.1 tasks handlers) _ _ c.first_failing.ensures c.in-Nothing.is

@@ -1,15 +1,16 @@
-use mathlib.Core.Path.{sym, ap}
+use mathlib.Core.Path.{sym, ap, ◌∙◌}
+use Rattle.std.proofs.Common.{rules}
 use Rattle.verdict.specs.Promise.{figures, answer_numbers}
 use Rattle.verdict.proofs.numbers.Goals as goal
 
-pub returns-in-Fits : goal.returns-in-Fits
+pub returns-in-Ok-Fits : goal.returns-in-Ok-Fits
 unfolding figures
-returns-in-Fits c = sym (ap answer_numbers c.in-Fits.is)
+returns-in-Ok-Fits c = search rules
 
-pub returns-in-Misses : goal.returns-in-Misses
+pub returns-in-Ok-Misses : goal.returns-in-Ok-Misses
 unfolding figures
-returns-in-Misses c = sym (ap answer_numbers c.in-Misses.is)
+returns-in-Ok-Misses c = search rules
 
-pub returns-in-Refused : goal.returns-in-Refused
+pub returns-in-Err : goal.returns-in-Err
 unfolding figures
-returns-in-Refused c = sym (ap answer_numbers c.in-Refused.is)
+returns-in-Err c = rw (c.from.ensures ∙ c.number.ensures) (sym (ap answer_numbers c.in-Err.is))

@@ -6,10 +6,11 @@
 --   CanClimb a b s n, Climbed a b s n c d w   from s, asked for so far, one may climb to n and has come to w: the idle point, if below n
 --   Looking ts hs a b s a search has come so far with the arrivals a and b to come and s asked for
 use Rattle.std.specs.Prelude.{List, ◌≡◌, ℕ, ◌+◌, ◌^◌, ◌≤◌, ◌<◌, length}
-use Rattle.walk.specs.Queue.{Entry, to_come, Queue}
+use Rattle.walk.specs.Queue.{to_come, Queue}
 use Rattle.demand.specs.Limits.{ticks_most}
 use Rattle.demand.specs.Rows.{Row}
 use Rattle.verdict.specs.Idle.{asks}
+use Rattle.walk.specs.declared.Entry.{Entry}
 
 abbrev pub both_come : List Entry → List Entry → ℕ → ℕ
 both_come a b x = to_come a x + to_come b x

@@ -6,7 +6,7 @@
 --   Searched ts hs t h p d n   the search has come to p.at, with f and A in p, D in d and the events t and h to come: all up to there
 --                          passes, and n test lengths are among it
 use Rattle.std.specs.Prelude.{Bool, true, List, ◌≡◌, ℕ, ◌+◌, ◌-◌, ◌/◌, ◌≤◌, min, ltb, length}
-use Rattle.walk.specs.Queue.{Entry, to_come, Ahead, Queue}
+use Rattle.walk.specs.Queue.{to_come, Ahead, Queue}
 use Rattle.demand.specs.Demands.{called, due}
 use Rattle.demand.specs.Inside.Arrivals.{Follows}
 use Rattle.demand.specs.Rows.{Row}
@@ -22,6 +22,7 @@ use Rattle.verdict.specs.Tested.{tested}
 use Rattle.verdict.specs.declared.Miss.{Miss}
 use Rattle.verdict.specs.declared.search.Found.{Found}
 use Rattle.verdict.specs.declared.search.Found.TheVariants.{At, Nothing}
+use Rattle.walk.specs.declared.Entry.{Entry}
 
 -- H, or, where W is below it, the greatest L that the last fact still admits, if below H: 0 where the bound is 0.
 unfoldable pub end_by : ℕ → ℕ → ℕ → ℕ

@@ -1,6 +1,7 @@
+use mathlib.Core.Path.{◌∙◌}
 use native.Mathlib.Omega.{arith}
 use borrow.Author.Tests.{lt-ltb, le-ltb}
-use native.Mathlib.Nat.{zero-div}
+use native.Mathlib.Nat.{zero-div, min_comm}
 use Prim.Native.Nat.{◌-◌}
 use Rattle.verdict.specs.Inside.Search.{end_by}
 use Rattle.verdict.proofs.search.end_of.Goals as goal
@@ -13,10 +14,6 @@ pub returns-then-bound-eq0 : goal.returns-then-bound-eq0
 unfolding end_by
 returns-then-bound-eq0 c = simp (lt-ltb _ _ c.if-h-w.false, c.if-bound-eq0.true) (omega (arith, zero-div (c.args.h - c.args.w)))
 
-pub returns-then-last-h : goal.returns-then-last-h
+pub returns : goal.returns
 unfolding end_by
-returns-then-last-h c = simp (lt-ltb _ _ c.if-h-w.false) (omega arith)
-
-pub returns-else-last-h : goal.returns-else-last-h
-unfolding end_by
-returns-else-last-h c = simp (lt-ltb _ _ c.if-h-w.false) (omega arith)
+returns c = simp (lt-ltb _ _ c.if-h-w.false) (c.min.ensures ∙ min_comm _ _)

@@ -1,7 +1,7 @@
 use mathlib.Core.Path.{refl, ◌∙◌}
 use native.Mathlib.Omega.{arith}
 use Prim.Native.Nat.{◌≤◌}
-use Rattle.walk.specs.Queue.{head, next}
+use Rattle.walk.specs.Queue.{head}
 use Rattle.demand.specs.Limits.{ticks_most}
 use Rattle.demand.specs.Rows.{tasks_of, handlers_of}
 use Rattle.demand.proofs.Refusals.{refusal-in-range}
@@ -33,12 +33,6 @@ bounds-t-0 c = omega (arith, c.loop-t.invariant.0.some)
 
 pub bounds-t-0-in-loop-t : goal.bounds-t-0-in-loop-t
 bounds-t-0-in-loop-t c = omega (arith, c.loop-t.invariant.0.some)
-
-pub bounds-t-0-in-loop-t-2 : goal.bounds-t-0-in-loop-t-2
-bounds-t-0-in-loop-t-2 c = omega (arith, c.loop-t.invariant.0.some)
-
-pub bounds-t-0-in-loop-t-3 : goal.bounds-t-0-in-loop-t-3
-bounds-t-0-in-loop-t-3 c = omega (arith, c.loop-t.invariant.0.some)
 
 pub climb-asked-requires : goal.climb-asked-requires
 climb-asked-requires c =
@@ -77,21 +71,21 @@ pub to-p-requires : goal.to-p-requires
 to-p-requires c =
     let turn = c.loop-t in
     let range = refusal-in-range _ _ c.requires.readable.0 in
-    let fits : next (head turn.t) ≤ ticks_most = omega (arith, c.requires.readable.1, c.loop-t-test.true) in
+    let fits : (head turn.t).next ≤ ticks_most = omega (arith, c.requires.readable.1, c.loop-t-test.true) in
     search-level (tasks_of c.args.tasks.now) (handlers_of c.args.handlers.now) range turn.t turn.h turn.p turn.d turn.tested turn.invariant.0 _ refl fits
 
 pub take-d-requires : goal.take-d-requires
 take-d-requires c =
     let turn = c.loop-t in
     let range = refusal-in-range _ _ c.requires.readable.0 in
-    let fits : next (head turn.t) ≤ ticks_most = omega (arith, c.requires.readable.1, c.loop-t-test.true) in
+    let fits : (head turn.t).next ≤ ticks_most = omega (arith, c.requires.readable.1, c.loop-t-test.true) in
     search-can (tasks_of c.args.tasks.now) (handlers_of c.args.handlers.now) range turn.t turn.h turn.p turn.d turn.tested turn.invariant.0 _ refl fits
 
 pub overflow_add-p : goal.overflow_add-p
 overflow_add-p c =
     let turn = c.loop-t in
     let range = refusal-in-range _ _ c.requires.readable.0 in
-    let fits : next (head turn.t) ≤ ticks_most = omega (arith, c.requires.readable.1, c.loop-t-test.true) in
+    let fits : (head turn.t).next ≤ ticks_most = omega (arith, c.requires.readable.1, c.loop-t-test.true) in
     omega (arith, search-fits (tasks_of c.args.tasks.now) (handlers_of c.args.handlers.now) range turn.t turn.h turn.p turn.d turn.tested turn.invariant.0 _ refl fits _ _ c.to-p.ensures _ _ c.take-d.ensures)
 
 pub overflow_sub-miss : goal.overflow_sub-miss
@@ -115,7 +109,7 @@ returns-then-n-p c =
     let turn = c.loop-t in
     let within = c.loop-t-test.true in
     let range = refusal-in-range _ _ c.requires.readable.0 in
-    let fits : next (head turn.t) ≤ ticks_most = omega (arith, c.requires.readable.1, within) in
+    let fits : (head turn.t).next ≤ ticks_most = omega (arith, c.requires.readable.1, within) in
     search-found (tasks_of c.args.tasks.now) (handlers_of c.args.handlers.now) range turn.t turn.h turn.p turn.d turn.tested turn.invariant.0 _ refl fits _ _ c.to-p.ensures _ _ c.take-d.ensures _ (omega (arith, within)) c.if-n-p.true
 
 pub loop-t-smaller : goal.loop-t-smaller
@@ -129,7 +123,7 @@ loop-t-preserved c =
     let turn = c.loop-t in
     let within = c.loop-t-test.true in
     let range = refusal-in-range _ _ c.requires.readable.0 in
-    let fits : next (head turn.t) ≤ ticks_most = omega (arith, c.requires.readable.1, within) in
+    let fits : (head turn.t).next ≤ ticks_most = omega (arith, c.requires.readable.1, within) in
     let climbed = c.climb-asked.ensures in
     let come = c.to-p.ensures in
     let took = c.take-d.ensures in (
