@@ -2,13 +2,12 @@
 use mathlib.Core.Bool.{Bool, true, false, ◌&&◌}
 use mathlib.Core.List.{List, [], ◌++◌, append_assoc}
 use mathlib.Core.Path.{◌≡◌, sym, ap, ◌∙◌}
-use native.Mathlib.Numerals.{add-one}
 use native.Mathlib.Omega.{arith}
 use borrow.Author.Tests.{le-leb, lt-leb}
 use Prim.Native.Nat.{ℕ, ◌+◌, ◌-◌, ◌≤◌, ◌<◌}
 use lib.Dec.{leb}
-use lib.ListN.{length, length-append, get_or, set, take, drop}
-use lib.Seq.{paste, paste-zero, paste-suc, length-paste, take-paste, drop-paste, drop-drop, take-length}
+use lib.ListN.{length, length-append, take, drop}
+use lib.Seq.{paste, paste-zero, length-paste, take-paste, drop-paste, drop-drop, take-length}
 use Rattle.page.specs.Laid.{room, end_of, laid}
 
 -- Where there is room, all bytes are laid;
@@ -37,14 +36,6 @@ module _ (page bs : List ℕ) (at : ℕ) where
   too_long a h =
       no_room
       (ap (λ (b : Bool). b && leb (length bs) (length page - at)) (le-leb at (length page) a) ∙ lt-leb (length bs) (length page - at) h)
-
--- A turn of the loop, from i bytes to i + 1.
-pub lay-turn : (page bs out : List ℕ) (at i : ℕ) → at + length bs ≤ length page → i < length bs → out ≡ paste page at bs i
-    → set out (at + i) (get_or bs i 0) ≡ paste page at bs (i + 1)
-lay-turn page bs out at i fits h e =
-    ap (λ (xs : List ℕ). set xs (at + i) (get_or bs i 0)) e
-    ∙ paste-suc page at bs i 0 (omega arith) h
-    ∙ ap (λ (n : ℕ). paste page at bs n) (sym (add-one i))
 
 -- ---- what is laid behind what
 
