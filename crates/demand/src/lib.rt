@@ -23,14 +23,14 @@ use table::{HANDLERS_MOST, Kind};
 use walk::Entry;
 
 // The ticks that handlers take, and the work that they leave over.
-#[derive(Clone, Copy, Debug, PartialEq, Eq)]
+#[derive(Clone, Copy)]
 pub struct Share {
     pub ticks: u64,
     pub left: u64,
 }
 
 // What both demands leave of an interval, below 0 where it fails, and the work that handlers leave over.
-#[derive(Clone, Copy, Debug, PartialEq, Eq)]
+#[derive(Clone, Copy)]
 pub struct Spare {
     pub ticks: i64,
     pub left: u64,

@@ -3,10 +3,11 @@
 --   cases          == the list
 --   CaseHolds c    the promise comes to these figures, and whatever it allows has them
 --   EveryCase cs   each case of the list holds
-use Rattle.std.specs.Prelude.{List, [], ◌∷◌, ◌≡◌, ℕ}
+use Rattle.std.specs.Prelude.{List, [], ◌∷◌, ◌≡◌, ℕ, Result}
+use Rattle.demand.specs.declared.refusal.Refusal.{Refusal}
 use Rattle.guards.specs.Answers.{Figures, figures, figures_by, RowsSay}
 use Rattle.guards.specs.Guards.{guard_refusal}
-use Rattle.guards.specs.declared.Answer.{Answer}
+use Rattle.guards.specs.declared.Pair.{Pair}
 use Rattle.guards.specs.declared.Guard.{Guard}
 use Rattle.guards.specs.declared.Guard.TheVariants.{Strict, Bursty}
 
@@ -84,7 +85,7 @@ cases =
 
 pub record CaseHolds (c : Case) : Type 0 where
   pub holds : figures_by (guard_refusal c.guard) c.guard ≡ c.told
-  pub only : (r : Answer) → RowsSay c.guard r → figures r ≡ c.told
+  pub only : (r : Result Pair Refusal) → RowsSay c.guard r → figures r ≡ c.told
 
 abbrev pub EveryCase : List Case → Type 0
 EveryCase [] = Unit

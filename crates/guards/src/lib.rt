@@ -7,7 +7,8 @@ ghost use Rattle.guards.specs.Answers.{RowsSay};
 ghost use Rattle.guards.specs.Guards.{handler_row};
 ghost use Rattle.guards.specs.Inside.{rows_by};
 
-use demand::table::{outside, wide};
+use demand::refusal::Refusal;
+use demand::table::outside;
 
 // The most interrupts of a burst.
 pub const BURST_MOST: u64 = 1_000;
@@ -35,21 +36,16 @@ pub enum Guard {
     },
 }
 
-// The costs of both handler rows, interrupt and timer, and their one period; or the number of the refusal.
+// The costs of both handler rows, interrupt and timer, and their one period.
 #[derive(Clone, Copy)]
-pub enum Answer {
-    Rows {
-        interrupt: u32,
-        timer: u32,
-        period: u32,
-    },
-    Refused {
-        number: u32,
-    },
+pub struct Pair {
+    pub interrupt: u32,
+    pub timer: u32,
+    pub period: u32,
 }
 
 // The two handler rows of a guard.
-pub fn rows(guard: Guard) -> Answer
+pub fn rows(guard: Guard) -> Result<Pair, Refusal>
     ensures { RowsSay guard result }
 {
     match guard {
@@ -60,13 +56,11 @@ pub fn rows(guard: Guard) -> Answer
             work,
             expire,
             gap,
-        } => {
-            ranged(
-                three(int, flip, setup) + wide(work),
-                wide(expire) + wide(flip),
-                wide(gap),
-            )
-        }
+        } => ranged(
+            three(int, flip, setup) + u64::from(work),
+            u64::from(expire) + u64::from(flip),
+            u64::from(gap),
+        ),
         Guard::Bursty {
             n,
             int,
@@ -77,14 +71,14 @@ pub fn rows(guard: Guard) -> Answer
             clear,
             gap,
         } => {
-            let n = wide(n);
+            let n = u64::from(n);
             if (n == 0) | (BURST_MOST < n) {
-                return Answer::Refused { number: 14 };
+                return Err(Refusal::BurstOutOfRange);
             }
             ranged(
-                n * three(int, work, count) + wide(flip),
+                n * three(int, work, count) + u64::from(flip),
                 three(expire, clear, flip),
-                wide(gap),
+                u64::from(gap),
             )
         }
     }
@@ -94,7 +88,7 @@ pub fn rows(guard: Guard) -> Answer
 fn three(a: u32, b: u32, c: u32) -> u64
     ensures { (result ≡ a + b + c) × (result < 12884901888) }
 {
-    wide(a) + wide(b) + wide(c)
+    u64::from(a) + u64::from(b) + u64::from(c)
 }
 
 // Is a handler row of this cost and this period out of range?
@@ -105,15 +99,15 @@ fn row_outside(cost: u64, period: u64) -> bool
 }
 
 // The rows of these costs and this period, or 3 where one is out of range.
-fn ranged(interrupt: u64, timer: u64, period: u64) -> Answer
+fn ranged(interrupt: u64, timer: u64, period: u64) -> Result<Pair, Refusal>
     ensures { result ≡ rows_by interrupt timer period }
 {
     if row_outside(interrupt, period) | row_outside(timer, period) {
-        return Answer::Refused { number: 3 };
+        return Err(Refusal::RowOutOfRange);
     }
-    Answer::Rows {
+    Ok(Pair {
         interrupt: interrupt as u32,
         timer: timer as u32,
         period: period as u32,
-    }
+    })
 }

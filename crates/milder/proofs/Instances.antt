@@ -10,9 +10,8 @@ use Rattle.demand.specs.Refusals.{table_tests}
 use Rattle.demand.specs.Rows.{row_at, tasks_of, handlers_of, total, some}
 use Rattle.demand.specs.Tests.{first_refusal}
 use Rattle.euclid.specs.Euclid.{gcd, lcm, euclid}
-use Rattle.guards.specs.Answers.{figures, figures_by, RowsSay}
+use Rattle.guards.specs.Answers.{figures, figures_by, RowsSay, rows_told}
 use Rattle.guards.specs.Guards.{guard_tests, guard_refusal}
-use Rattle.guards.specs.declared.Answer.TheVariants.{Rows}
 use Rattle.guards.specs.declared.Guard.{Guard}
 use Rattle.guards.specs.declared.Guard.TheVariants.{Strict, Bursty}
 use Rattle.verdict.specs.Lengths.{AlwaysPasses}
@@ -38,19 +37,19 @@ strict work = Strict 1 1 1 work 1 40
 abbrev burst : ℕ → Guard
 burst n = Bursty n 1 1 1 1 1 1 40
 
-strict-rows : RowsSay (strict 2) (Rows 5 2 40)
+strict-rows : RowsSay (strict 2) (rows_told 5 2 40)
 unfolding figures figures_by guard_refusal guard_tests first_refusal
 strict-rows = record { answer = refl; figured = refl }
 
-strict-eased-rows : RowsSay (strict 1) (Rows 4 2 40)
+strict-eased-rows : RowsSay (strict 1) (rows_told 4 2 40)
 unfolding figures figures_by guard_refusal guard_tests first_refusal
 strict-eased-rows = record { answer = refl; figured = refl }
 
-burst-rows : RowsSay (burst 2) (Rows 7 3 40)
+burst-rows : RowsSay (burst 2) (rows_told 7 3 40)
 unfolding figures figures_by guard_refusal guard_tests first_refusal
 burst-rows = record { answer = refl; figured = refl }
 
-burst-eased-rows : RowsSay (burst 1) (Rows 4 3 40)
+burst-eased-rows : RowsSay (burst 1) (rows_told 4 3 40)
 unfolding figures figures_by guard_refusal guard_tests first_refusal
 burst-eased-rows = record { answer = refl; figured = refl }
 

@@ -6,9 +6,8 @@ use native.Mathlib.Omega.{arith}
 use Prim.Native.Nat.{ℕ, ◌+◌, ◌*◌, ◌≤◌}
 use Rattle.demand.specs.Refusals.{FairRow}
 use Rattle.demand.specs.Tests.{pick}
-use Rattle.guards.specs.Answers.{Figures, figures, figures_by, RowsSay}
+use Rattle.guards.specs.Answers.{Figures, figures, figures_by, RowsSay, rows_told}
 use Rattle.guards.specs.Guards.{interrupt_cost, timer_cost, gap_of, burst_outside, handler_row, rows_outside, guard_refusal}
-use Rattle.guards.specs.declared.Answer.TheVariants.{Rows}
 use Rattle.guards.specs.declared.Guard.{Guard}
 use Rattle.guards.specs.declared.Guard.TheVariants.{Strict, Bursty}
 use Rattle.guards.proofs.Answers.{rows-fair, refusal_is}
@@ -48,11 +47,11 @@ pub record Costs (g : Guard) (a b p : ℕ) : Type 0 where
   pub period : p ≡ gap_of g
   pub fair : FairRow (handler_row a p) × FairRow (handler_row b p)
 
-pub rows-cost : (g : Guard) (a b p : ℕ) → RowsSay g (Rows a b p) → Costs g a b p
+pub rows-cost : (g : Guard) (a b p : ℕ) → RowsSay g (rows_told a b p) → Costs g a b p
 unfolding figures figures_by
 rows-cost g a b p says =
     let none : guard_refusal g ≡ 0 = sym (ap (λ (f : Figures). f.code) says.figured) in
-    let is : figures (Rows a b p) ≡ figures_by 0 g = says.figured ∙ ap (λ (k : ℕ). figures_by k g) none in
+    let is : figures (rows_told a b p) ≡ figures_by 0 g = says.figured ∙ ap (λ (k : ℕ). figures_by k g) none in
     let interrupt : a ≡ interrupt_cost g = ap (λ (f : Figures). f.interrupt) is in
     let timer : b ≡ timer_cost g = ap (λ (f : Figures). f.timer) is in
     let period : p ≡ gap_of g = ap (λ (f : Figures). f.period) is in

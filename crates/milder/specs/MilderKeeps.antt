@@ -5,9 +5,8 @@
 --                           rows of a milder guard in their place: no answer but a yes is allowed on it, so it is readable too
 use Rattle.std.specs.Prelude.{List, ◌≡◌, ℕ, length}
 use Rattle.demand.specs.Rows.{row_at, handlers_of}
-use Rattle.guards.specs.Answers.{RowsSay}
+use Rattle.guards.specs.Answers.{RowsSay, rows_told}
 use Rattle.guards.specs.Guards.{handler_row}
-use Rattle.guards.specs.declared.Answer.TheVariants.{Rows}
 use Rattle.guards.specs.declared.Guard.{Guard}
 use Rattle.verdict.specs.Promise.{figures, VerdictSays}
 use Rattle.verdict.specs.Promise.Word.{fits}
@@ -26,7 +25,7 @@ pub record OthersKept (h h' : List ℕ) (i j : ℕ) : Type 0 where
 unfoldable pub MilderKeeps : Type 0
 MilderKeeps =
     (g g' : Guard) (a b p a' b' p' : ℕ) (t h h' : List ℕ) (i j : ℕ) (r r' : Answer)
-    → RowsSay g (Rows a b p) → RowsSay g' (Rows a' b' p') → Milder g' g
+    → RowsSay g (rows_told a b p) → RowsSay g' (rows_told a' b' p') → Milder g' g
     → HoldsRows h i j a b p → HoldsRows h' i j a' b' p' → OthersKept h h' i j
     → VerdictSays t h r → (figures r).word ≡ fits
     → VerdictSays t h' r' → (figures r').word ≡ fits

@@ -1,5 +1,4 @@
 -- The order of priorities as numbers, the climb, and the search of all tasks.
 pub mod Ranks
-pub mod Places
 pub mod Climb
 pub mod Search

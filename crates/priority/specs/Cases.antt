@@ -4,13 +4,13 @@
 --   sheet_of c      == the figures of its answer
 --   CaseHolds c    the promise comes to these figures, and whatever it allows has them
 --   EveryCase cs   each case of the list holds
-use Rattle.std.specs.Prelude.{List, [], ◌∷◌, ◌≡◌, ℕ, get_or}
+use Rattle.std.specs.Prelude.{List, [], ◌∷◌, ◌≡◌, ℕ, get_or, Result}
 use Rattle.demand.specs.Limits.{tasks_most}
 use Rattle.demand.specs.Refusals.{table_refusal}
 use Rattle.demand.specs.Rows.{tasks_of, handlers_of}
+use Rattle.demand.specs.declared.refusal.Refusal.{Refusal}
 use Rattle.priority.specs.Answers.{Figures, figures, figures_by, ResponsesSay}
 use Rattle.priority.specs.Responses.{listed, leasts}
-use Rattle.priority.specs.declared.Profile.{Profile}
 
 -- of a table that is not refused the responses of its tasks, one each; of a refused one none
 pub record Case : Type 0 where
@@ -72,7 +72,7 @@ sheet_of c = record { code = c.code; least = listed (λ i. get_or c.least i 0) t
 
 pub record CaseHolds (c : Case) : Type 0 where
   pub holds : figures_by (table_refusal c.tasks c.handlers) (leasts (tasks_of c.tasks) (handlers_of c.handlers)) ≡ sheet_of c
-  pub only : (p : Profile) → ResponsesSay c.tasks c.handlers p → figures p ≡ sheet_of c
+  pub only : (r : Result (List ℕ) Refusal) → ResponsesSay c.tasks c.handlers r → figures r ≡ sheet_of c
 
 abbrev pub EveryCase : List Case → Type 0
 EveryCase [] = Unit

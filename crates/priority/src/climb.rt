@@ -38,17 +38,7 @@ fn up(tasks: &[u32], handlers: &[u32], end: u64, l: u64, deadline: u64) -> u64
     at
 }
 
-// The deadline of the task at a place.
-fn deadline_at(tasks: &[u32], place: usize) -> u64
-    requires { (place < tasks_most) × (place < length (tasks_of tasks.now)) }
-    ensures { result ≡ (row_at (tasks_of tasks.now) place).deadline }
-{
-    let at = table::width(Kind::Task) * place;
-    let row = table::head(Kind::Task, &tasks[at..]);
-    row.deadline
-}
-
-// l, or 0 where it is above the deadline.
+// l, or 0 where it is above the deadline: the paper's figure for a task without a response.
 fn within(l: u64, deadline: u64) -> u64
     ensures { result ≡ pick (ltb deadline l) 0 l }
 {
@@ -65,7 +55,7 @@ pub fn all(tasks: &[u32], handlers: &[u32]) -> [u64; TASKS_MOST]
     let mut rank = ranks::next(tasks, 0, 0);
     while rank < PAST_RANKS {
         let place = (rank % 64) as usize;
-        let deadline = deadline_at(tasks, place);
+        let deadline = table::row_at(Kind::Task, tasks, place).deadline;
         l = up(tasks, handlers, rank + 1, l, deadline);
         least[place] = within(l, deadline);
         rank = ranks::next(tasks, rank + 1, 0);

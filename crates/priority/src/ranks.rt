@@ -24,7 +24,7 @@ fn work_by(end: u64, j: u64, l: u64, row: Row) -> u64
     ensures { result ≡ work_by end j l (row_of row) }
 {
     if rank(j, row) < end {
-        row.cost * ((l + (row.period - 1)) / row.period)
+        row.cost * l.div_ceil(row.period)
     } else {
         0
     }
@@ -50,7 +50,7 @@ fn lesser_from(from: u64, x: u64, y: u64) -> u64
     if x < from {
         return y;
     }
-    if x < y { x } else { y }
+    x.min(y)
 }
 
 // The least rank of a task that is not below from.

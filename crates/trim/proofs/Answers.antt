@@ -1,35 +1,37 @@
 -- Answers that meet the promise, from what the code has in hand, and that it allows one answer only.
 use mathlib.Core.List.{List}
 use mathlib.Core.Logic.{◌⊎◌, inl, inr}
-use mathlib.Core.Path.{◌≡◌, refl, ap, sym, subst, ◌∙◌}
+use mathlib.Core.Path.{◌≡◌, refl, ap, sym, ◌∙◌}
 use native.Mathlib.Omega.{arith}
 use native.Mathlib.Nat.{eq-zero-or-pos}
 use borrow.Author.Tests.{le-leb, lt-leb, le-ltb, lt-ltb}
 use lib.Dec.{ltb}
 use lib.ListN.{length}
 use Prim.Native.Nat.{ℕ, ◌+◌, ◌≤◌, ◌<◌}
+use Rattle.std.specs.Prelude.{Result, Ok, Err, Option, Some, None}
+use Rattle.demand.proofs.Numbered.{number-once}
+use Rattle.demand.specs.Numbered.{number_of}
 use Rattle.demand.specs.Refusals.{Fair, FairRow, InRange}
 use Rattle.demand.specs.Rows.{tasks_of, handlers_of}
 use Rattle.demand.specs.Tests.{pick, first_refusal}
 use Rattle.demand.proofs.Divide.{le-or-lt}
 use Rattle.demand.proofs.Inside.Places.{each_at}
 use Rattle.demand.proofs.Refusals.{refusal-whole}
+use Rattle.demand.specs.declared.refusal.Refusal.{Refusal}
+use Rattle.demand.specs.declared.refusal.Refusal.TheVariants.{NoSuchTask}
 use Rattle.trim.specs.Costs.{cost_at, with_cost}
 use Rattle.trim.specs.Inside.{Placed, CanSearch, FoundSays}
-use Rattle.trim.specs.Promise.{Word, Figures, figures, cost_of, none_of, refusal_of, Gets, missing, trim_tests, trim_refusal}
+use Rattle.trim.specs.Promise.{Word, Figures, figures, cost_of, none_of, refusal_of, Gets, missing, trim_tests, trim_refusal, cut_of}
 use Rattle.trim.specs.Promise.{SaysCost, SaysNone, SaysRefused, SaysBy, Says, TrimSays}
 use Rattle.trim.specs.Promise.Word.{cost, none, refused}
 use Rattle.trim.specs.Unique.{TrimUnique}
-use Rattle.trim.specs.declared.Answer.{Answer}
-use Rattle.trim.specs.declared.Answer.TheVariants as answer
+use Rattle.trim.specs.declared.Cut.{Cut}
 use Rattle.trim.specs.declared.search.Found.{Found}
 use Rattle.trim.proofs.Repriced.{with-present, cost-is}
 use Rattle.trim.proofs.Lowered.{fits-over-misses}
 use Rattle.verdict.specs.Promise as verdict
 use Rattle.verdict.specs.Promise.{verdict_refusal, VerdictSays}
 use Rattle.verdict.specs.Promise.Word.{fits, misses}
-use Rattle.verdict.specs.declared.Answer as sheet
-use Rattle.verdict.specs.declared.Answer.TheVariants as told
 use Rattle.verdict.proofs.Readable.{readable-table, readable-in-range}
 
 -- ---- the refusal
@@ -84,17 +86,16 @@ module _ (t h : List ℕ) (i : ℕ) (readable : verdict_refusal t h ≡ 0) (row 
 
 module _ (t h : List ℕ) (i : ℕ) where
   -- The verdict's refusal is handed on,
-  pub says-refused : (a : sheet.Answer) (k : ℕ) → VerdictSays t h a → a ≡ told.Refused k → TrimSays t h i (answer.Refused k)
+  pub says-refused : (k : Refusal) → VerdictSays t h (Err k) → TrimSays t h i (Err k)
   unfolding TrimSays Says SaysBy figures VerdictSays verdict.Says verdict.SaysBy verdict.figures
-  says-refused a k says e =
-      let here : VerdictSays t h (told.Refused k) = subst (VerdictSays t h) e says in
+  says-refused k here =
       let number : trim_refusal t h i ≡ verdict_refusal t h = unreadable-refusal t h i here.unreadable in
-      let code : k ≡ trim_refusal t h i = ap (λ (g : verdict.Figures). g.code) here.figures ∙ sym number in
+      let code : number_of k ≡ trim_refusal t h i = ap (λ (g : verdict.Figures). g.code) here.figures ∙ sym number in
       record { unanswered = omega (arith, here.unreadable, number); figures = ap refusal_of code }
 
   module _ (readable : verdict_refusal t h ≡ 0) where
     -- then 18.
-    pub says-18 : length (tasks_of t) ≤ i → TrimSays t h i (answer.Refused 18)
+    pub says-18 : length (tasks_of t) ≤ i → TrimSays t h i (Err NoSuchTask)
     unfolding TrimSays Says SaysBy figures
     says-18 past =
         let number : trim_refusal t h i ≡ 18 = missing-refusal t h i readable past in
@@ -102,7 +103,7 @@ module _ (t h : List ℕ) (i : ℕ) where
 
     module _ (row : i < length (tasks_of t)) (old : ℕ) (present : old ≡ cost_at t i) where
       -- A table that fits keeps its cost,
-      pub says-kept : Gets t h fits → TrimSays t h i (answer.Cost old old)
+      pub says-kept : Gets t h fits → TrimSays t h i (Ok (record { old = old; new = Some old }))
       unfolding TrimSays Says SaysBy figures
       says-kept gets = record {
         answered = no-refusal t h i readable row;
@@ -114,7 +115,7 @@ module _ (t h : List ℕ) (i : ℕ) where
       }
 
       -- one that misses with cost 1 has none,
-      pub says_none : Gets (with_cost t i 1) h misses → TrimSays t h i (answer.None old)
+      pub says_none : Gets (with_cost t i 1) h misses → TrimSays t h i (Ok (record { old = old; new = None }))
       unfolding TrimSays Says SaysBy figures
       says_none gets = record { answered = no-refusal t h i readable row; one = gets; figures = ap none_of present }
 
@@ -139,7 +140,7 @@ module _ (t h : List ℕ) (i : ℕ) where
           more (inl l) = absurd (fits-over-misses t h i old 1 readable fair l low misses-now)
           more (inr l) = l
 
-      pub says-found : (r : Found) → FoundSays t h i old r → TrimSays t h i (answer.Cost old r.cost)
+      pub says-found : (r : Found) → FoundSays t h i old r → TrimSays t h i (Ok (record { old = old; new = Some r.cost }))
       unfolding TrimSays Says SaysBy figures
       says-found r found = record {
         answered = no-refusal t h i readable row;
@@ -199,18 +200,30 @@ says-unique t h i f g = go f.word g.word
     go refused none a b = absurd (none-or-refused t h i g f b a)
     go refused refused a b = a.figures ∙ sym b.figures
 
+-- Cuts with the same figures are the same,
+cuts-once : (a b : Cut) → cut_of a.old a.new ≡ cut_of b.old b.new → a ≡ b
+cuts-once a b e = go a.new refl b.new refl
+  where
+    go : (m : Option ℕ) → a.new ≡ m → (n : Option ℕ) → b.new ≡ n → a ≡ b
+    go (Some m) em (Some n) en = let same : cost_of a.old m ≡ cost_of b.old n = rw (em, en) at e in
+        λ j. record { old = (same j).old; new = (em ∙ ap Some (ap (λ (f : Figures). f.new) same) ∙ sym en) j }
+    go (Some m) em None en = let same : cost_of a.old m ≡ none_of b.old = rw (em, en) at e in cc (ap (λ (f : Figures). f.word) same)
+    go None em (Some n) en = let same : none_of a.old ≡ cost_of b.old n = rw (em, en) at e in cc (ap (λ (f : Figures). f.word) same)
+    go None em None en = let same : none_of a.old ≡ none_of b.old = rw (em, en) at e in
+        λ j. record { old = (same j).old; new = (em ∙ sym en) j }
+
+-- and no cut has those of a refusal.
+not-refused : (old : ℕ) (new : Option ℕ) → (cut_of old new).word ≡ refused → ⊥
+not-refused old (Some n) e = cc e
+not-refused old None e = cc e
+
 -- Answers with the same figures are the same.
-figures-once : (r s : Answer) → figures r ≡ figures s → r ≡ s
+figures-once : (r s : Result Cut Refusal) → figures r ≡ figures s → r ≡ s
 unfolding figures
-figures-once (answer.Cost o n) (answer.Cost p m) e = λ j. answer.Cost (e j).old (e j).new
-figures-once (answer.Cost o n) (answer.None p) e = cc (ap (λ (f : Figures). f.word) e)
-figures-once (answer.Cost o n) (answer.Refused k) e = cc (ap (λ (f : Figures). f.word) e)
-figures-once (answer.None o) (answer.Cost p m) e = cc (ap (λ (f : Figures). f.word) e)
-figures-once (answer.None o) (answer.None p) e = λ j. answer.None (e j).old
-figures-once (answer.None o) (answer.Refused k) e = cc (ap (λ (f : Figures). f.word) e)
-figures-once (answer.Refused k) (answer.Cost p m) e = cc (ap (λ (f : Figures). f.word) e)
-figures-once (answer.Refused k) (answer.None p) e = cc (ap (λ (f : Figures). f.word) e)
-figures-once (answer.Refused k) (answer.Refused l) e = λ j. answer.Refused (e j).code
+figures-once (Ok a) (Ok b) e = ap Ok (cuts-once a b e)
+figures-once (Ok a) (Err k) e = absurd (not-refused a.old a.new (ap (λ (f : Figures). f.word) e))
+figures-once (Err k) (Ok a) e = absurd (not-refused a.old a.new (ap (λ (f : Figures). f.word) (sym e)))
+figures-once (Err k) (Err l) e = ap Err (number-once k l (ap (λ (f : Figures). f.code) e))
 
 pub trim-unique : TrimUnique
 unfolding TrimSays

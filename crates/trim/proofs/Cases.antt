@@ -12,6 +12,7 @@ use native.Mathlib.Omega.{arith}
 use borrow.Author.Tests.{lt-ltb}
 use lib.Dec.{ltb}
 use Prim.Native.Nat.{ℕ, zero, suc, ◌+◌, ◌-◌}
+use Rattle.std.specs.Prelude.{Ok}
 use Rattle.demand.specs.Demands.{called, grow, taken, handled, left, due}
 use Rattle.demand.specs.Multiples.{lcm_from}
 use Rattle.demand.specs.Refusals.{table_tests}
@@ -49,27 +50,28 @@ unfoldable sheet_of : verdict.Word → List ℕ → List ℕ → verdict.Figures
 sheet_of verdict.Word.fits t h = yes_of (load (tasks_of t) (handlers_of h)) (yes_count (tasks_of t) (handlers_of h))
 sheet_of verdict.Word.misses t h =
     no_of (miss_at (tasks_of t) (handlers_of h) (failing 64 (tasks_of t) (handlers_of h) 1)) (load (tasks_of t) (handlers_of h))
-sheet_of verdict.Word.refused t h = refusal_of (verdict_refusal t h)
+sheet_of verdict.Word.refused t h = refusal_of 0
 
 abbrev case_of : verdict.Word → List ℕ → List ℕ → worked.Case
 case_of w t h = record { tasks = t; handlers = h; sheet = sheet_of w t h; beside = [] }
 
 unfoldable gets : verdict.Word → List ℕ → List ℕ → Bool
-gets w t h = sheet.holds (case_of w t h)
+gets verdict.Word.fits t h = sheet.holds (case_of verdict.Word.fits t h)
+gets verdict.Word.misses t h = sheet.holds (case_of verdict.Word.misses t h)
+gets verdict.Word.refused t h = false
 
 gets_by : (w : verdict.Word) (t h : List ℕ) → gets w t h ≡ true → Gets t h w
 unfolding gets sheet_of VerdictSays verdict.figures
 gets_by verdict.Word.fits t h e =
     let ts = tasks_of t in
     let hs = handlers_of h in
-    record { answer = answer.Fits (load ts hs) (yes_count ts hs); says = (holds-says (case_of verdict.Word.fits t h) e).holds; word = refl }
+    record { answer = Ok (answer.Fits (load ts hs) (yes_count ts hs)); says = (holds-says (case_of verdict.Word.fits t h) e).holds; word = refl }
 gets_by verdict.Word.misses t h e =
     let ts = tasks_of t in
     let hs = handlers_of h in
     let miss = miss_at ts hs (failing 64 ts hs 1) in
-    record { answer = answer.Misses miss (load ts hs); says = (holds-says (case_of verdict.Word.misses t h) e).holds; word = refl }
-gets_by verdict.Word.refused t h e =
-    record { answer = answer.Refused (verdict_refusal t h); says = (holds-says (case_of verdict.Word.refused t h) e).holds; word = refl }
+    record { answer = Ok (answer.Misses miss (load ts hs)); says = (holds-says (case_of verdict.Word.misses t h) e).holds; word = refl }
+gets_by verdict.Word.refused t h e = cc e
 
 -- ---- the test of a case
 

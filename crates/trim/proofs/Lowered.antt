@@ -1,11 +1,13 @@
 -- A lower cost keeps a yes: what the verdict tells of two costs of one task.
 use mathlib.Core.Bool.{Bool, true, false}
 use mathlib.Core.List.{List}
-use mathlib.Core.Path.{◌≡◌, refl, subst}
+use mathlib.Core.Path.{◌≡◌, subst}
 use native.Mathlib.Omega.{arith}
 use Prim.Native.Nat.{ℕ, ◌≤◌}
+use Rattle.std.specs.Prelude.{Ok, Err}
 use Rattle.demand.specs.Refusals.{Fair}
 use Rattle.demand.specs.Rows.{handlers_of}
+use Rattle.demand.specs.declared.refusal.Refusal.{Refusal}
 use Rattle.trim.specs.Costs.{with_cost}
 use Rattle.trim.specs.Inside.{is_fits, told_by, Judged}
 use Rattle.trim.specs.Promise.{Gets}
@@ -15,7 +17,6 @@ use Rattle.verdict.specs.Promise.{Word, figures, verdict_refusal, SaysBy, Says, 
 use Rattle.verdict.specs.Promise.Word.{fits, misses}
 use Rattle.verdict.specs.declared.Answer.{Answer}
 use Rattle.verdict.specs.declared.Answer.TheVariants as answer
-use Rattle.verdict.specs.declared.Miss.{Miss}
 use Rattle.verdict.proofs.Lightening.{yes-under-less}
 
 -- No word is two words.
@@ -36,26 +37,17 @@ fits-over-misses t h i b c readable fair less high low =
     low.word
 
 -- What the verdict tells of a readable table: a yes or a no.
-pub judged-by : (t h : List ℕ) (a : Answer) (b : Bool) → verdict_refusal t h ≡ 0 → VerdictSays t h a → b ≡ is_fits a → Judged t h b
+pub judged-by : (t h : List ℕ) (a : Answer) (b : Bool) → VerdictSays t h (Ok a) → b ≡ is_fits a → Judged t h b
 unfolding VerdictSays Says SaysBy figures
-judged-by t h (answer.Fits l n) b readable says e =
-    record { readable = readable; gets = record { answer = answer.Fits l n; says = says; word = rw e } }
-judged-by t h (answer.Misses m l) b readable says e =
-    record { readable = readable; gets = record { answer = answer.Misses m l; says = says; word = rw e } }
-judged-by t h (answer.Refused k) b readable says e = absurd (omega (arith, says.unreadable))
+judged-by t h (answer.Fits l n) b says e =
+    record { readable = says.readable; gets = record { answer = Ok (answer.Fits l n); says = says; word = rw e } }
+judged-by t h (answer.Misses m l) b says e =
+    record { readable = says.readable; gets = record { answer = Ok (answer.Misses m l); says = says; word = rw e } }
 
--- Of any table, by the case of the answer.
-pub judged-fits : (t h : List ℕ) (a : Answer) (l n : ℕ) → a ≡ answer.Fits l n → VerdictSays t h a → Judged t h true
+-- A readable table is not refused.
+pub readable-answered : (t h : List ℕ) (k : Refusal) → verdict_refusal t h ≡ 0 → VerdictSays t h (Err k) → ⊥
 unfolding VerdictSays Says SaysBy figures
-judged-fits t h a l n e says =
-    let here : VerdictSays t h (answer.Fits l n) = subst (VerdictSays t h) e says in
-    record { readable = here.readable; gets = record { answer = answer.Fits l n; says = here; word = refl } }
-
-pub judged-misses : (t h : List ℕ) (a : Answer) (m : Miss) (l : ℕ) → a ≡ answer.Misses m l → VerdictSays t h a → Judged t h false
-unfolding VerdictSays Says SaysBy figures
-judged-misses t h a m l e says =
-    let here : VerdictSays t h (answer.Misses m l) = subst (VerdictSays t h) e says in
-    record { readable = here.readable; gets = record { answer = answer.Misses m l; says = here; word = refl } }
+readable-answered t h k readable says = omega (arith, says.unreadable)
 
 -- A yes, and a no.
 pub told-fits : {t h : List ℕ} {b : Bool} → Judged t h b → b ≡ true → Gets t h fits

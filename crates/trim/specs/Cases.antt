@@ -3,9 +3,10 @@
 --   cases          == the list
 --   CaseHolds c    the promise holds of these figures, and whatever it allows has them
 --   EveryCase cs   each case of the list holds
-use Rattle.std.specs.Prelude.{List, [], ◌∷◌, ◌≡◌, ℕ}
+use Rattle.std.specs.Prelude.{List, [], ◌∷◌, ◌≡◌, ℕ, Result}
+use Rattle.demand.specs.declared.refusal.Refusal.{Refusal}
 use Rattle.trim.specs.Promise.{Figures, figures, cost_of, none_of, refusal_of, Says, TrimSays}
-use Rattle.trim.specs.declared.Answer.{Answer}
+use Rattle.trim.specs.declared.Cut.{Cut}
 
 pub record Case : Type 0 where
   pub tasks : List ℕ
@@ -43,7 +44,7 @@ cases =
 
 pub record CaseHolds (c : Case) : Type 0 where
   pub holds : Says c.tasks c.handlers c.row c.told
-  pub only : (r : Answer) → TrimSays c.tasks c.handlers c.row r → figures r ≡ c.told
+  pub only : (r : Result Cut Refusal) → TrimSays c.tasks c.handlers c.row r → figures r ≡ c.told
 
 abbrev pub EveryCase : List Case → Type 0
 EveryCase [] = Unit

@@ -26,7 +26,6 @@ use Rattle.verdict.specs.declared.Answer.TheVariants as answer
 abbrev pub is_fits : Answer → Bool
 is_fits (answer.Fits load tested) = true
 is_fits (answer.Misses miss load) = false
-is_fits (answer.Refused number) = false
 
 abbrev pub told_by : Bool → Word
 told_by true = fits

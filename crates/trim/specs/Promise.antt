@@ -4,22 +4,23 @@
 --   trim_tests t h i     == the verdict's own refusal and 18, each a number beside its test
 --   trim_refusal t h i   == the first of 1, 2, 3, 13, 4 and 18 that applies, 0 where none does
 --   figures r           == the word, number and values for each case of an answer; what does not apply is 0
---   cost_of, none_of, refusal_of   == those of a cost, of none and of a refusal
+--   cost_of, none_of, refusal_of   == those of a cost, of none and of a refusal; cut_of old new those of a cost, where there is one, or of none
 --   numbers_of g         == the numbers of the figures g: the refusal's, old and new cost; answer_numbers r are those of an answer
 --   TrimSays t h i r    r is the answer for task i of the table t, h
-use Rattle.std.specs.Prelude.{Bool, List, [], ◌∷◌, ◌≡◌, ℕ, ◌+◌, ◌≤◌, ◌<◌, leb, ltb, length}
+use Rattle.std.specs.Prelude.{Bool, List, [], ◌∷◌, ◌≡◌, ℕ, ◌+◌, ◌≤◌, ◌<◌, leb, ltb, length, Result, Ok, Err, Option, Some, None}
+use Rattle.demand.specs.Numbered.{number_of}
 use Rattle.demand.specs.Rows.{tasks_of}
 use Rattle.demand.specs.Tests.{first_refusal}
+use Rattle.demand.specs.declared.refusal.Refusal.{Refusal}
 use Rattle.trim.specs.Costs.{cost_at, with_cost}
-use Rattle.trim.specs.declared.Answer.{Answer}
-use Rattle.trim.specs.declared.Answer.TheVariants as answer
+use Rattle.trim.specs.declared.Cut.{Cut}
 use Rattle.verdict.specs.Promise as verdict
 use Rattle.verdict.specs.Promise.{verdict_refusal, VerdictSays}
 use Rattle.verdict.specs.Promise.Word.{fits, misses}
 use Rattle.verdict.specs.declared.Answer as sheet
 
 pub record Gets (t h : List ℕ) (w : verdict.Word) : Type 0 where
-  pub answer : sheet.Answer
+  pub answer : Result sheet.Answer Refusal
   pub says : VerdictSays t h answer
   pub word : (verdict.figures answer).word ≡ w
 
@@ -57,15 +58,18 @@ none_of old = record { word = none; code = 0; old = old; new = 0 }
 abbrev pub refusal_of : ℕ → Figures
 refusal_of number = record { word = refused; code = number; old = 0; new = 0 }
 
-unfoldable pub figures : Answer → Figures
-figures (answer.Cost old new) = cost_of old new
-figures (answer.None old) = none_of old
-figures (answer.Refused number) = refusal_of number
+abbrev pub cut_of : ℕ → Option ℕ → Figures
+cut_of old (Some new) = cost_of old new
+cut_of old None = none_of old
+
+unfoldable pub figures : Result Cut Refusal → Figures
+figures (Ok cut) = cut_of cut.old cut.new
+figures (Err e) = refusal_of (number_of e)
 
 abbrev pub numbers_of : Figures → List ℕ
 numbers_of g = g.code ∷ g.old ∷ g.new ∷ []
 
-abbrev pub answer_numbers : Answer → List ℕ
+abbrev pub answer_numbers : Result Cut Refusal → List ℕ
 answer_numbers r = numbers_of (figures r)
 
 -- ---- what they say
@@ -98,5 +102,5 @@ SaysBy refused t h i g = SaysRefused t h i g
 unfoldable pub Says : List ℕ → List ℕ → ℕ → Figures → Type 0
 Says t h i g = SaysBy g.word t h i g
 
-unfoldable pub TrimSays : List ℕ → List ℕ → ℕ → Answer → Type 0
+unfoldable pub TrimSays : List ℕ → List ℕ → ℕ → Result Cut Refusal → Type 0
 TrimSays t h i r = Says t h i (figures r)

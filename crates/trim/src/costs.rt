@@ -19,8 +19,7 @@ pub fn present(tasks: &[u32], row: usize) -> u32
     requires { Placed tasks.now row }
     ensures { result ≡ cost_at tasks.now row }
 {
-    let at = place_of(row);
-    tasks[at]
+    tasks[place_of(row)]
 }
 
 // The list with this cost for the task at row, and zeros behind it.
@@ -29,12 +28,7 @@ pub fn with_cost(tasks: &[u32], row: usize, cost: u32) -> [u32; TASK_NUMBERS]
     ensures { take (length tasks.now) result ≡ with_cost tasks.now row cost }
 {
     let mut all = [0u32; TASK_NUMBERS];
-    let mut i = 0;
-    while i < tasks.len() {
-        all[i] = tasks[i];
-        i += 1;
-    }
-    let at = place_of(row);
-    all[at] = cost;
+    all[..tasks.len()].copy_from_slice(tasks);
+    all[place_of(row)] = cost;
     all
 }

@@ -4,6 +4,7 @@ ghost use Rattle.trim.specs.Costs.{with_cost};
 ghost use Rattle.trim.specs.Inside.{is_fits, Judged, CanTry, CanSearch, FoundSays};
 
 use crate::costs;
+use verdict::Answer;
 
 // The greatest cost that fits, and how many verdicts told it.
 #[derive(Clone, Copy)]
@@ -13,14 +14,10 @@ pub struct Found {
 }
 
 // Is the answer a yes?
-fn is_fits(answer: verdict::Answer) -> bool
+pub fn is_fits(answer: Answer) -> bool
     ensures { result ≡ is_fits answer }
 {
-    match answer {
-        verdict::Answer::Fits { load, tested } => true,
-        verdict::Answer::Misses { miss, load } => false,
-        verdict::Answer::Refused { number } => false,
-    }
+    matches!(answer, Answer::Fits { .. })
 }
 
 // Does the table fit with this cost for the task at row?
@@ -29,9 +26,10 @@ pub fn fits_with(tasks: &[u32], handlers: &[u32], row: usize, cost: u32) -> bool
     ensures { Judged (with_cost tasks.now row cost) handlers.now result }
 {
     let all = costs::with_cost(tasks, row, cost);
-    let n = tasks.len();
-    let answer = verdict::verdict(&all[..n], handlers);
-    is_fits(answer)
+    match verdict::verdict(&all[..tasks.len()], handlers) {
+        Ok(answer) => is_fits(answer),
+        Err(_) => false,
+    }
 }
 
 // The greatest cost that fits, where 1 fits and the cost most does not: between low, which fits, and high, which does not, until they are

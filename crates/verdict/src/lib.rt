@@ -17,7 +17,7 @@ use demand::table::Kind;
 use search::Found;
 
 // The shortest interval that fails, with both demands there, the work that handlers leave over and how many lengths were tested.
-#[derive(Clone, Copy, Debug, PartialEq, Eq)]
+#[derive(Clone, Copy)]
 pub struct Miss {
     pub interval: u64,
     pub handler: u64,
@@ -27,7 +27,7 @@ pub struct Miss {
 }
 
 // Fits, with how many lengths were tested; or misses at the shortest interval that fails.
-#[derive(Clone, Copy, Debug, PartialEq, Eq)]
+#[derive(Clone, Copy)]
 pub enum Answer {
     Fits { load: u64, tested: u64 },
     Misses { miss: Miss, load: u64 },
@@ -37,6 +37,7 @@ pub enum Answer {
 pub const NUMBERS: usize = 8;
 
 // The numbers of an answer: that of its word (0 fits, 1 misses, 2 refused), then those of the printed line.
+#[tactic(auto, unfolding(crate::specs::Promise::figures))]
 pub fn numbers(answer: Result<Answer, Refusal>) -> [u64; NUMBERS]
     ensures { result ≡ answer_numbers answer }
 {

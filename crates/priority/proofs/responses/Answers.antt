@@ -1,19 +1,12 @@
-use mathlib.Core.Path.{refl, sym, ◌∙◌}
-use Rattle.priority.specs.Answers.{no_lengths}
+use mathlib.Core.Path.{sym}
+use Rattle.std.proofs.lemmas.Result.{err_from_is_err_and}
 use Rattle.priority.proofs.Answers.{found-says, refused_says}
 use Rattle.priority.proofs.responses.Goals as goal
 
-pub all-requires : goal.all-requires
-all-requires c = sym c.of_table-number.ensures ∙ c.if-number-eq0.true
+pub returns-in_err-of_table : goal.returns-in_err-of_table
+returns-in_err-of_table c =
+    let p = err_from_is_err_and c.from_residual.result c.from_residual.ensures.1 in
+    rw (p.1, p.2) (refused_says _ _ _ c.in_err-of_table.ensures)
 
-pub returns-then-number-eq0 : goal.returns-then-number-eq0
-returns-then-number-eq0 c =
-    let x = c.args in
-    found-says x.tasks.now x.handlers.now c.all.result (sym c.of_table-number.ensures ∙ c.if-number-eq0.true) c.all.ensures
-
-pub returns-else-number-eq0 : goal.returns-else-number-eq0
-unfolding no_lengths
-returns-else-number-eq0 c =
-    let x = c.args in
-    let number = c.of_table-number.ensures in
-    refused_says x.tasks.now x.handlers.now no_lengths _ number (λ z. c.if-number-eq0.false (number ∙ z)) refl
+pub returns : goal.returns
+returns c = found-says _ _ _ (sym c.in_ok-of_table.ensures) c.all.ensures

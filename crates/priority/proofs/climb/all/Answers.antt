@@ -1,4 +1,5 @@
 use mathlib.Core.List.{List}
+use mathlib.Core.Path.{ap}
 use native.Mathlib.Omega.{arith}
 use Prim.Native.Nat.{ℕ, ◌+◌, ◌%◌, ◌≤◌, ◌<◌}
 use lib.ListN.{length}
@@ -22,9 +23,6 @@ loop-rank-init c =
     let g = refusal-in-range t h c.requires in
     rw c.next-rank.ensures (search-start (tasks_of t) (handlers_of h) g, next-at 0 (tasks_of t) g.tasks-most)
 
-pub deadline_at-deadline-requires : goal.deadline_at-deadline-requires
-deadline_at-deadline-requires c = let at = c.loop-rank.invariant.1 (omega arith) in (omega arith, at.row)
-
 -- A deadline is at most the greatest period.
 deadline-most : (ts hs : List Row) (k : ℕ) → InRange ts hs → k < length ts → (row_at ts k).deadline ≤ figure_most
 deadline-most ts hs k g h =
@@ -32,12 +30,15 @@ deadline-most ts hs k g h =
     let sound : Sound (row_at ts k) = each_at Sound ts g.deadlines k h in
     omega (arith, fair.period.most, sound.fits)
 
+pub row_at-deadline-requires : goal.row_at-deadline-requires
+row_at-deadline-requires c = let at = c.loop-rank.invariant.1 (omega arith) in (omega arith, at.row)
+
 pub up-l-requires : goal.up-l-requires
 up-l-requires c =
     let loop = c.loop-rank in
     let at = loop.invariant.1 (omega arith) in
     let g = refusal-in-range _ _ c.requires in
-    (g, omega (arith, c.deadline_at-deadline.ensures, deadline-most _ _ (loop.rank % 64) g at.row))
+    (g, omega (arith, ap (λ (r : Row). r.deadline) c.row_at-deadline.ensures, deadline-most _ _ (loop.rank % 64) g at.row))
 
 pub next-rank-requires-in-loop-rank : goal.next-rank-requires-in-loop-rank
 next-rank-requires-in-loop-rank c =
@@ -56,8 +57,8 @@ loop-rank-preserved c =
     let x = c.loop-rank.rank in
     let soon : x < past_ranks = omega arith in
     let turn =
-    search-turn (tasks_of t) (handlers_of h) g x c.loop-rank.l c.deadline_at-deadline.result c.up-l.result c.loop-rank.least
-    c.loop-rank.invariant.0 (c.loop-rank.invariant.1 soon) c.deadline_at-deadline.ensures c.up-l.ensures soon in
+    search-turn (tasks_of t) (handlers_of h) g x c.loop-rank.l c.row_at-deadline.result.deadline c.up-l.result c.loop-rank.least
+    c.loop-rank.invariant.0 (c.loop-rank.invariant.1 soon) (ap (λ (r : Row). r.deadline) c.row_at-deadline.ensures) c.up-l.ensures soon in
     rw (c.next-rank-in-loop-rank.ensures, c.within.ensures) (turn, next-at (x + 1) (tasks_of t) g.tasks-most)
 
 pub returns : goal.returns

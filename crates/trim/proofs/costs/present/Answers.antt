@@ -4,4 +4,4 @@ use Rattle.trim.proofs.costs.present.Goals as goal
 
 pub returns : goal.returns
 unfolding cost_at
-returns c = rw c.place_of-at.ensures refl
+returns c = rw c.place_of.ensures refl
