@@ -12,87 +12,71 @@ ghost use Rattle.priority.specs.Answers.{ResponsesSay};
 ghost use Rattle.trim.specs.Promise.{TrimSays};
 ghost use Rattle.verdict.specs.Promise.{VerdictSays};
 
-use demand::{DemandAnswer, HandlerAnswer, MarginAnswer};
-use priority::Profile;
+use demand::refusal::Refusal;
+use demand::table::TASKS_MOST;
+use demand::{Share, Spare};
+use trim::Cut;
 use verdict::Answer;
 
 // Handler demand at l of a table held by column, with what is left over.
-pub fn handler_demand(tasks: &[u32], handlers: &[u32], l: u64) -> HandlerAnswer
+pub fn handler_demand(tasks: &[u32], handlers: &[u32], l: u64) -> Result<Share, Refusal>
     ensures { HandlerSays (asked_refusal (row_order Task tasks.now) (row_order Handler handlers.now) l)
         (handlers_of (row_order Handler handlers.now)) l result }
 {
-    let table = columns::in_row_order(tasks, handlers);
-    if !table.held {
-        return demand::handler_demand(tasks, handlers, l);
+    match columns::in_row_order(tasks, handlers) {
+        Some(table) => demand::handler_demand(table.tasks.as_slice(), table.handlers.as_slice(), l),
+        None => demand::handler_demand(tasks, handlers, l),
     }
-    let t = table.tasks.numbers;
-    let h = table.handlers.numbers;
-    demand::handler_demand(&t[..table.tasks.len], &h[..table.handlers.len], l)
 }
 
 // Task demand at l of a table held by column.
-pub fn task_demand(tasks: &[u32], handlers: &[u32], l: u64) -> DemandAnswer
+pub fn task_demand(tasks: &[u32], handlers: &[u32], l: u64) -> Result<u64, Refusal>
     ensures { DemandSays (asked_refusal (row_order Task tasks.now) (row_order Handler handlers.now) l)
         (due (tasks_of (row_order Task tasks.now)) l) result }
 {
-    let table = columns::in_row_order(tasks, handlers);
-    if !table.held {
-        return demand::task_demand(tasks, handlers, l);
+    match columns::in_row_order(tasks, handlers) {
+        Some(table) => demand::task_demand(table.tasks.as_slice(), table.handlers.as_slice(), l),
+        None => demand::task_demand(tasks, handlers, l),
     }
-    let t = table.tasks.numbers;
-    let h = table.handlers.numbers;
-    demand::task_demand(&t[..table.tasks.len], &h[..table.handlers.len], l)
 }
 
 // The margin at l of a table held by column, with what is left over.
-pub fn margin(tasks: &[u32], handlers: &[u32], l: u64) -> MarginAnswer
+pub fn margin(tasks: &[u32], handlers: &[u32], l: u64) -> Result<Spare, Refusal>
     ensures { MarginSays (asked_refusal (row_order Task tasks.now) (row_order Handler handlers.now) l)
         (tasks_of (row_order Task tasks.now)) (handlers_of (row_order Handler handlers.now)) l result }
 {
-    let table = columns::in_row_order(tasks, handlers);
-    if !table.held {
-        return demand::margin(tasks, handlers, l);
+    match columns::in_row_order(tasks, handlers) {
+        Some(table) => demand::margin(table.tasks.as_slice(), table.handlers.as_slice(), l),
+        None => demand::margin(tasks, handlers, l),
     }
-    let t = table.tasks.numbers;
-    let h = table.handlers.numbers;
-    demand::margin(&t[..table.tasks.len], &h[..table.handlers.len], l)
 }
 
 // The verdict on a table held by column.
-pub fn verdict(tasks: &[u32], handlers: &[u32]) -> Answer
+pub fn verdict(tasks: &[u32], handlers: &[u32]) -> Result<Answer, Refusal>
     ensures { VerdictSays (row_order Task tasks.now) (row_order Handler handlers.now) result }
 {
-    let table = columns::in_row_order(tasks, handlers);
-    if !table.held {
-        return verdict::verdict(tasks, handlers);
+    match columns::in_row_order(tasks, handlers) {
+        Some(table) => verdict::verdict(table.tasks.as_slice(), table.handlers.as_slice()),
+        None => verdict::verdict(tasks, handlers),
     }
-    let t = table.tasks.numbers;
-    let h = table.handlers.numbers;
-    verdict::verdict(&t[..table.tasks.len], &h[..table.handlers.len])
 }
 
 // The response of each task of a table held by column.
-pub fn responses(tasks: &[u32], handlers: &[u32]) -> Profile
+pub fn responses(tasks: &[u32], handlers: &[u32]) -> Result<[u64; TASKS_MOST], Refusal>
     ensures { ResponsesSay (row_order Task tasks.now) (row_order Handler handlers.now) result }
 {
-    let table = columns::in_row_order(tasks, handlers);
-    if !table.held {
-        return priority::responses(tasks, handlers);
+    match columns::in_row_order(tasks, handlers) {
+        Some(table) => priority::responses(table.tasks.as_slice(), table.handlers.as_slice()),
+        None => priority::responses(tasks, handlers),
     }
-    let t = table.tasks.numbers;
-    let h = table.handlers.numbers;
-    priority::responses(&t[..table.tasks.len], &h[..table.handlers.len])
 }
 
 // The greatest cost of the task at row at which a table held by column fits.
-pub fn trim(tasks: &[u32], handlers: &[u32], row: usize) -> trim::Answer
+pub fn trim(tasks: &[u32], handlers: &[u32], row: usize) -> Result<Cut, Refusal>
     ensures { TrimSays (row_order Task tasks.now) (row_order Handler handlers.now) row result }
 {
-    let table = columns::in_row_order(tasks, handlers);
-    if !table.held {
-        return trim::trim(tasks, handlers, row);
+    match columns::in_row_order(tasks, handlers) {
+        Some(table) => trim::trim(table.tasks.as_slice(), table.handlers.as_slice(), row),
+        None => trim::trim(tasks, handlers, row),
     }
-    let t = table.tasks.numbers;
-    let h = table.handlers.numbers;
-    trim::trim(&t[..table.tasks.len], &h[..table.handlers.len], row)
 }

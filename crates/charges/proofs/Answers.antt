@@ -6,12 +6,11 @@ use native.Mathlib.Omega.{arith}
 use borrow.Author.Tests.{ltb-false, eqb-true, lt-ltb, ne_eqb}
 use lib.Dec.{eqb, ltb}
 use Prim.Native.Nat.{ℕ, ◌*◌, ◌≤◌, ◌<◌}
-use Rattle.charges.specs.Inside.{is_refused, CanLoad, CanCharge}
+use Rattle.std.specs.Prelude.{Result, Ok, Err, Option, Some, None, is_ok}
+use Rattle.charges.specs.Inside.{CanLoad, CanCharge}
 use Rattle.charges.specs.Promise.{quantum_most, quantum_outside, charge_of, shorter, charged, by_quantum, by_task, ChargeSays}
 use Rattle.charges.specs.Ways.{useful, quantum_cost, task_cost, load_by}
-use Rattle.charges.specs.declared.Answer.TheVariants as answer
 use Rattle.charges.specs.declared.Charge.{Charge}
-use Rattle.charges.specs.declared.Charge.TheVariants as charge
 use Rattle.demand.specs.Demands.{ceil}
 use Rattle.demand.specs.Inside.Sizes.{Small}
 use Rattle.demand.specs.Limits.{ticks_most}
@@ -20,6 +19,8 @@ use Rattle.demand.specs.Rows.{Row, tasks_of, handlers_of, some}
 use Rattle.demand.proofs.Inside.Sizes.{fair-positive}
 use Rattle.demand.proofs.Periods.{lcm-from-le, lcm-from-positive}
 use Rattle.demand.proofs.Refusals.{neither}
+use Rattle.demand.specs.declared.refusal.Refusal.{Refusal}
+use Rattle.demand.specs.declared.refusal.Refusal.TheVariants.{QuantumOutOfRange}
 use Rattle.verdict.specs.Multiples.{common}
 use Rattle.verdict.specs.Promise.{verdict_refusal, VerdictSays, Says, SaysBy, figures}
 use Rattle.verdict.specs.declared.Answer as sheet
@@ -62,52 +63,52 @@ module _ (t h : List ℕ) (known : true ≡ charged t h) where
   }
 
   -- by quanta: nothing useful,
-  pub quantum-useless : (q : ℕ) → useful q (handlers_of h) ≡ 0 → charge.None ≡ by_quantum q t h
+  pub quantum-useless : (q : ℕ) → useful q (handlers_of h) ≡ 0 → None ≡ by_quantum q t h
   unfolding by_quantum
   quantum-useless q none = rw (sym known, none)
 
   -- or something,
   pub quantum-charged : (q u l : ℕ) (r : Charge) → u ≡ useful q (handlers_of h) → 0 < u
-      → l ≡ load_by (λ (x : Row). q * ceil x.cost u) (tasks_of t) → r ≡ charge_of l → r ≡ by_quantum q t h
+      → l ≡ load_by (λ (x : Row). q * ceil x.cost u) (tasks_of t) → r ≡ charge_of l → Some r ≡ by_quantum q t h
   unfolding by_quantum
   quantum-charged q u l r eu pos el er =
       let same : l ≡ load_by (quantum_cost q (handlers_of h)) (tasks_of t) = el ∙ ap (λ (v : ℕ). load_by (λ (x : Row). q * ceil x.cost v) (tasks_of t)) eu in
-      er ∙ rw (sym known, lt-ltb 0 (useful q (handlers_of h)) (omega (arith, eu))) (ap charge_of same)
+      ap Some er ∙ rw (sym known, lt-ltb 0 (useful q (handlers_of h)) (omega (arith, eu))) (ap (λ (x : ℕ). Some (charge_of x)) same)
 
   -- and by task.
-  pub task-charged : (l : ℕ) (r : Charge) → l ≡ load_by (task_cost (handlers_of h)) (tasks_of t) → r ≡ charge_of l → r ≡ by_task t h
+  pub task-charged : (l : ℕ) (r : Charge) → l ≡ load_by (task_cost (handlers_of h)) (tasks_of t) → r ≡ charge_of l → Some r ≡ by_task t h
   unfolding by_task
-  task-charged l r el er = er ∙ rw (sym known) (ap charge_of el)
+  task-charged l r el er = ap Some er ∙ rw (sym known) (ap (λ (x : ℕ). Some (charge_of x)) el)
 
 -- ---- one of which the other is known
 
-pub quantum-unknown : (t h : List ℕ) (q : ℕ) → false ≡ charged t h → charge.None ≡ by_quantum q t h
+pub quantum-unknown : (t h : List ℕ) (q : ℕ) → false ≡ charged t h → None ≡ by_quantum q t h
 unfolding by_quantum
 quantum-unknown t h q e = rw (sym e)
 
-pub task-unknown : (t h : List ℕ) → false ≡ charged t h → charge.None ≡ by_task t h
+pub task-unknown : (t h : List ℕ) → false ≡ charged t h → None ≡ by_task t h
 unfolding by_task
 task-unknown t h e = rw (sym e)
 
 -- ---- what the verdict tells of it
 
-pub told-known : (t h : List ℕ) (a : sheet.Answer) → VerdictSays t h a → (r b : Bool) → r ≡ is_refused a → b ≡ some shorter (tasks_of t)
-    → (not r && not b) ≡ charged t h
+pub told-known : (t h : List ℕ) (a : Result sheet.Answer Refusal) → VerdictSays t h a → (r b : Bool) → r ≡ is_ok a → b ≡ some shorter (tasks_of t)
+    → (r && not b) ≡ charged t h
 unfolding VerdictSays Says SaysBy figures
-told-known t h (verdict.Fits l n) says r b er eb = rw (er, eb, says.readable)
-told-known t h (verdict.Misses m l) says r b er eb = rw (er, eb, says.readable)
-told-known t h (verdict.Refused n) says r b er eb = rw (er, ne_eqb (verdict_refusal t h) 0 (λ e. omega (arith, says.unreadable)))
+told-known t h (Ok (verdict.Fits l n)) says r b er eb = rw (er, eb, says.readable)
+told-known t h (Ok (verdict.Misses m l)) says r b er eb = rw (er, eb, says.readable)
+told-known t h (Err n) says r b er eb = rw (er, ne_eqb (verdict_refusal t h) 0 (λ e. omega (arith, says.unreadable)))
 
 -- ---- the whole answer
 
 pub inside-short : (q : ℕ) → quantum_outside q ≡ false → q ≤ quantum_most
 inside-short q e = ltb-false quantum_most q (neither (eqb q 0) (ltb quantum_most q) e).1
 
-pub says-19 : (t h : List ℕ) (q : ℕ) → quantum_outside q ≡ true → ChargeSays t h q (answer.Refused 19)
+pub says-19 : (t h : List ℕ) (q : ℕ) → quantum_outside q ≡ true → ChargeSays t h q (Err QuantumOutOfRange)
 unfolding ChargeSays
 says-19 t h q e = record { outside = e; number = refl }
 
-pub says-charged : (t h : List ℕ) (q : ℕ) (e : sheet.Answer) (a b : Charge) → quantum_outside q ≡ false → VerdictSays t h e
-    → a ≡ by_quantum q t h → b ≡ by_task t h → ChargeSays t h q (answer.Charged e a b)
+pub says-charged : (t h : List ℕ) (q : ℕ) (e : Result sheet.Answer Refusal) (a b : Option Charge) → quantum_outside q ≡ false → VerdictSays t h e
+    → a ≡ by_quantum q t h → b ≡ by_task t h → ChargeSays t h q (Ok (record { exact = e; quantum = a; task = b }))
 unfolding ChargeSays
 says-charged t h q e a b inside exact quantum task = record { inside = inside; exact = exact; quantum = quantum; task = task }

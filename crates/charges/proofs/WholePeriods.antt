@@ -3,15 +3,15 @@ use mathlib.Core.List.{List, [], ◌∷◌}
 use mathlib.Core.Path.{◌≡◌, refl, ap, sym, ◌∙◌}
 use native.Mathlib.Nat.{mul-add-div, div-add-mod', div-mul_cancel, mul_assoc, mul_comm, div-mul-le_self, mod-lt, mul-le-mul_right}
 use native.Mathlib.Omega.{arith}
-use borrow.Author.Tests.{le-ltb}
 use Prim.Native.Nat.{ℕ, ◌+◌, ◌-◌, ◌*◌, ◌/◌, ◌%◌, ◌≤◌, ◌<◌, ◌∣◌}
+use Rattle.std.specs.Prelude.{Some}
 use Rattle.charges.specs.Inside.{CanLoad, periods_by, rest_by}
 use Rattle.charges.specs.Ways.{grown, load_by}
 use Rattle.demand.specs.Limits.{ticks_most}
-use Rattle.demand.specs.Multiples.{lcm_from, capped, Divided}
+use Rattle.demand.specs.Multiples.{lcm_from, limited, Divided}
 use Rattle.demand.specs.Rows.{Row, Positive, total}
 use Rattle.demand.proofs.Inside.Sizes.{fair-positive}
-use Rattle.demand.proofs.Periods.{lcm-from-nil, lcm-from-positive, lcm-from-rows}
+use Rattle.demand.proofs.Periods.{lcm-from-nil, lcm-from-positive, lcm-from-rows, limited-some}
 use Rattle.demand.proofs.Sums.{total-nil, total-cons}
 use Rattle.euclid.specs.Euclid.{lcm}
 use Rattle.verdict.specs.Loads.{work, whole, millionths, load}
@@ -68,9 +68,9 @@ pub record Found (ts : List Row) (h : ℕ) : Type 0 where
   pub some : 0 < h
   pub most : h ≤ ticks_most
 
-pub common-found : (ts : List Row) (h : ℕ) → CanLoad ts → h ≡ capped (lcm_from 1 ts) → Found ts h
+pub common-found : (ts : List Row) (h : ℕ) → CanLoad ts → Some h ≡ limited (lcm_from 1 ts) → Found ts h
 common-found ts h can e =
-    let is : h ≡ lcm_from 1 ts = e ∙ rw (le-ltb ticks_most (lcm_from 1 ts) can.ticks) in
+    let is : h ≡ lcm_from 1 ts = (limited-some (lcm_from 1 ts) h e).0 in
     record {
       is = is;
       some = rw is (lcm-from-positive 1 ts (omega arith) (fair-positive ts can.rows));

@@ -8,9 +8,8 @@
 --   periods_by, rest_by    == whole periods of a grown cost, and what its rest brings over h ticks
 --   SumsSay g h ts r     r has the sums of both over ts
 --   periods_most          == the most whole periods of a grown cost
---   is_refused a          == the verdict's answer a is a refusal
 --   Known t h b          b is whether the table is readable with every deadline its period
-use Rattle.std.specs.Prelude.{Bool, true, false, List, ◌≡◌, ℕ, ◌*◌, ◌/◌, ◌%◌, ◌≤◌, ◌<◌, length}
+use Rattle.std.specs.Prelude.{Bool, List, ◌≡◌, ℕ, ◌*◌, ◌/◌, ◌%◌, ◌≤◌, ◌<◌, length}
 use Rattle.charges.specs.Promise.{quantum_most, charged}
 use Rattle.charges.specs.Ways.{task_cost}
 use Rattle.charges.specs.declared.ways.Sums.{Sums}
@@ -21,8 +20,6 @@ use Rattle.demand.specs.Limits.{figure_most, tasks_most, handlers_most, ticks_mo
 use Rattle.demand.specs.Multiples.{lcm_from}
 use Rattle.demand.specs.Refusals.{FairRow}
 use Rattle.demand.specs.Rows.{Row, Each, total}
-use Rattle.verdict.specs.declared.Answer.{Answer}
-use Rattle.verdict.specs.declared.Answer.TheVariants as answer
 
 abbrev pub way_cost : Way → List Row → Row → ℕ
 way_cost (way.Quantum q u) hs r = q * ceil r.cost u
@@ -62,11 +59,6 @@ pub record SumsSay (g : Row → ℕ) (h : ℕ) (ts : List Row) (r : Sums) : Type
 
 abbrev pub periods_most : ℕ
 periods_most = 100000000000
-
-abbrev pub is_refused : Answer → Bool
-is_refused (answer.Fits load tested) = false
-is_refused (answer.Misses miss load) = false
-is_refused (answer.Refused number) = true
 
 abbrev pub Known : List ℕ → List ℕ → Bool → Type 0
 Known t h b = b ≡ charged t h

@@ -6,16 +6,16 @@
 --   charged t h            == the table is readable and plain: else the two other ways have none
 --   by_quantum q t h, by_task t h   == the charges of the table t, h in the two other ways
 --   ChargeSays t h q r     r is the answer to the table t, h with a quantum of q ticks
-use Rattle.std.specs.Prelude.{Bool, true, false, not, ◌&&◌, ◌||◌, List, ◌≡◌, ℕ, eqb, leb, ltb}
+use Rattle.std.specs.Prelude.{Bool, true, false, not, ◌&&◌, ◌||◌, List, ◌≡◌, ℕ, eqb, leb, ltb, Result, Ok, Err, Option, Some, None}
 use Rattle.charges.specs.Ways.{useful, quantum_cost, task_cost, load_by}
-use Rattle.charges.specs.declared.Answer.{Answer}
-use Rattle.charges.specs.declared.Answer.TheVariants as answer
 use Rattle.charges.specs.declared.Charge.{Charge}
 use Rattle.charges.specs.declared.Charge.TheVariants as charge
+use Rattle.charges.specs.declared.Charged.{Charged}
+use Rattle.demand.specs.Numbered.{number_of}
 use Rattle.demand.specs.Rows.{Row, tasks_of, handlers_of, some}
 use Rattle.demand.specs.Tests.{pick}
+use Rattle.demand.specs.declared.refusal.Refusal.{Refusal}
 use Rattle.verdict.specs.Promise.{verdict_refusal, VerdictSays}
-use Rattle.verdict.specs.declared.Answer as sheet
 
 -- 19: a quantum out of its range, before any table
 abbrev pub quantum_most : ℕ
@@ -40,27 +40,27 @@ abbrev pub charged : List ℕ → List ℕ → Bool
 charged t h = eqb (verdict_refusal t h) 0 && plain (tasks_of t)
 
 -- none where nothing of the quantum is useful
-unfoldable pub by_quantum : ℕ → List ℕ → List ℕ → Charge
+unfoldable pub by_quantum : ℕ → List ℕ → List ℕ → Option Charge
 by_quantum q t h =
-    pick (charged t h && ltb 0 (useful q (handlers_of h))) (charge_of (load_by (quantum_cost q (handlers_of h)) (tasks_of t))) charge.None
+    pick (charged t h && ltb 0 (useful q (handlers_of h))) (Some (charge_of (load_by (quantum_cost q (handlers_of h)) (tasks_of t)))) None
 
-unfoldable pub by_task : List ℕ → List ℕ → Charge
-by_task t h = pick (charged t h) (charge_of (load_by (task_cost (handlers_of h)) (tasks_of t))) charge.None
+unfoldable pub by_task : List ℕ → List ℕ → Option Charge
+by_task t h = pick (charged t h) (Some (charge_of (load_by (task_cost (handlers_of h)) (tasks_of t)))) None
 
 -- ---- what an answer says
 
 -- The exact verdict beside the two other charges.
-pub record SaysCharged (t h : List ℕ) (q : ℕ) (e : sheet.Answer) (a b : Charge) : Type 0 where
+pub record SaysCharged (t h : List ℕ) (q : ℕ) (c : Charged) : Type 0 where
   pub inside : quantum_outside q ≡ false
-  pub exact : VerdictSays t h e
-  pub quantum : a ≡ by_quantum q t h
-  pub task : b ≡ by_task t h
+  pub exact : VerdictSays t h c.exact
+  pub quantum : c.quantum ≡ by_quantum q t h
+  pub task : c.task ≡ by_task t h
 
 -- 19, whatever the table is.
 pub record SaysRefused (q n : ℕ) : Type 0 where
   pub outside : quantum_outside q ≡ true
   pub number : n ≡ 19
 
-unfoldable pub ChargeSays : List ℕ → List ℕ → ℕ → Answer → Type 0
-ChargeSays t h q (answer.Charged exact quantum task) = SaysCharged t h q exact quantum task
-ChargeSays t h q (answer.Refused number) = SaysRefused q number
+unfoldable pub ChargeSays : List ℕ → List ℕ → ℕ → Result Charged Refusal → Type 0
+ChargeSays t h q (Ok charged) = SaysCharged t h q charged
+ChargeSays t h q (Err e) = SaysRefused q (number_of e)

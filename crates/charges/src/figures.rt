@@ -2,7 +2,9 @@
 ghost use Rattle.std.specs.Prelude.{◌≡◌};
 ghost use Rattle.charges.specs.Figures.{exact_word, charge_word, charge_load, charged_of, figures, word_number, numbers_of};
 
-use crate::{Answer, Charge};
+use crate::{Charge, Charged};
+use demand::refusal::Refusal;
+use verdict::Answer;
 
 #[derive(Clone, Copy)]
 pub enum Word {
@@ -29,65 +31,60 @@ const CODE: usize = 1;
 
 const LOAD: usize = 5;
 
-fn exact_word(exact: verdict::Answer) -> Word
+fn exact_word(exact: Result<Answer, Refusal>) -> Word
     ensures { result ≡ exact_word exact }
 {
     match exact {
-        verdict::Answer::Fits { load, tested } => Word::Fits,
-        verdict::Answer::Misses { miss, load } => Word::Misses,
-        verdict::Answer::Refused { number } => Word::Refused,
+        Ok(Answer::Fits { .. }) => Word::Fits,
+        Ok(Answer::Misses { .. }) => Word::Misses,
+        Err(_) => Word::Refused,
     }
 }
 
-fn charge_word(charge: Charge) -> Word
+fn charge_word(charge: Option<Charge>) -> Word
     ensures { result ≡ charge_word charge }
 {
     match charge {
-        Charge::Fits { load } => Word::Fits,
-        Charge::Misses { load } => Word::Misses,
-        Charge::None => Word::None,
+        Some(Charge::Fits { .. }) => Word::Fits,
+        Some(Charge::Misses { .. }) => Word::Misses,
+        None => Word::None,
     }
 }
 
-fn charge_load(charge: Charge) -> u64
+fn charge_load(charge: Option<Charge>) -> u64
     ensures { result ≡ charge_load charge }
 {
     match charge {
-        Charge::Fits { load } => load,
-        Charge::Misses { load } => load,
-        Charge::None => 0,
+        Some(Charge::Fits { load } | Charge::Misses { load }) => load,
+        None => 0,
     }
 }
 
 // The figures of a charged table.
-fn charged(exact: verdict::Answer, quantum: Charge, task: Charge) -> Figures
-    ensures { result ≡ charged_of exact quantum task }
+fn charged(charged: Charged) -> Figures
+    ensures { result ≡ charged_of charged }
 {
-    let numbers = verdict::numbers(exact);
+    let numbers = verdict::numbers(charged.exact);
     Figures {
-        exact: exact_word(exact),
+        exact: exact_word(charged.exact),
         code: numbers[CODE],
         load: numbers[LOAD],
-        quantum: charge_word(quantum),
-        quantum_load: charge_load(quantum),
-        task: charge_word(task),
-        task_load: charge_load(task),
+        quantum: charge_word(charged.quantum),
+        quantum_load: charge_load(charged.quantum),
+        task: charge_word(charged.task),
+        task_load: charge_load(charged.task),
     }
 }
 
 // The figures of an answer.
-pub fn of_answer(answer: Answer) -> Figures
+pub fn of_answer(answer: Result<Charged, Refusal>) -> Figures
     ensures { result ≡ figures answer }
 {
     match answer {
-        Answer::Charged {
-            exact,
-            quantum,
-            task,
-        } => charged(exact, quantum, task),
-        Answer::Refused { number } => Figures {
+        Ok(told) => charged(told),
+        Err(refusal) => Figures {
             exact: Word::Refused,
-            code: number as u64,
+            code: u64::from(refusal.number()),
             load: 0,
             quantum: Word::None,
             quantum_load: 0,
@@ -115,16 +112,13 @@ pub const NUMBERS: usize = 7;
 pub fn numbers(figures: Figures) -> [u64; NUMBERS]
     ensures { result ≡ numbers_of figures }
 {
-    let exact = figures.exact;
-    let quantum = figures.quantum;
-    let task = figures.task;
     [
-        number(exact),
+        number(figures.exact),
         figures.code,
         figures.load,
-        number(quantum),
+        number(figures.quantum),
         figures.quantum_load,
-        number(task),
+        number(figures.task),
         figures.task_load,
     ]
 }

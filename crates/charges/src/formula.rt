@@ -1,5 +1,5 @@
 // Formula 2 of document 001: what handlers take of an interval, each bounded apart from the others.
-ghost use Rattle.std.specs.Prelude.{◌≡◌, ◌≤◌, min};
+ghost use Rattle.std.specs.Prelude.{◌≡◌, ◌≤◌};
 ghost use Rattle.charges.specs.Ways.{bound, bounds};
 ghost use Rattle.demand.specs.Inside.Sizes.{Small};
 ghost use Rattle.demand.specs.Limits.{ticks_most};
@@ -9,20 +9,12 @@ ghost use Rattle.demand.specs.Rows.{row_of, handlers_of};
 use demand::table;
 use demand::table::{Kind, Row};
 
-// The lesser of two numbers.
-fn lesser(a: u64, b: u64) -> u64
-    ensures { result ≡ min a b }
-{
-    if b < a { b } else { a }
-}
-
 // Of one handler: its cost for each whole period, and for the rest its cost or, where that is less, the rest.
 fn bound(row: Row, l: u64) -> u64
     requires { FairRow (row_of row) × (l ≤ ticks_most) }
     ensures { result ≡ bound l (row_of row) }
 {
-    let last = lesser(row.cost, l % row.period);
-    row.cost * (l / row.period) + last
+    row.cost * (l / row.period) + row.cost.min(l % row.period)
 }
 
 // The sum over handlers.

@@ -33,8 +33,7 @@ pub fn useful(handlers: &[u32], quantum: u64) -> u64
     requires { Small (handlers_of handlers.now) quantum }
     ensures { result ≡ useful quantum (handlers_of handlers.now) }
 {
-    let taken = formula::bounds(handlers, quantum);
-    if taken < quantum { quantum - taken } else { 0 }
+    quantum.saturating_sub(formula::bounds(handlers, quantum))
 }
 
 // A cost in whole quanta.
@@ -42,7 +41,7 @@ fn in_quanta(cost: u64, ticks: u64, useful: u64) -> u64
     requires { Quantized cost ticks useful }
     ensures { result ≡ ticks * ceil cost useful }
 {
-    ticks * ((cost + (useful - 1)) / useful)
+    ticks * cost.div_ceil(useful)
 }
 
 // What the cost of a task grows to.
@@ -82,7 +81,7 @@ pub fn load(way: Way, tasks: &[u32], handlers: &[u32]) -> u64
     requires { Usable way × CanLoad (tasks_of tasks.now) × CanCharge (handlers_of handlers.now) }
     ensures { result ≡ load_by (way_cost way (handlers_of handlers.now)) (tasks_of tasks.now) }
 {
-    let h = multiples::of_rows(Kind::Task, tasks, 1);
+    let h = multiples::of_rows(Kind::Task, tasks, 1).unwrap();
     let sums = summed(way, tasks, handlers, h);
-    MILLION * sums.periods + (MILLION * sums.rest + (h - 1)) / h
+    MILLION * sums.periods + (MILLION * sums.rest).div_ceil(h)
 }

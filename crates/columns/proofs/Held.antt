@@ -8,6 +8,7 @@ use borrow.Author.Tests.{ltb-true, lt-ltb}
 use Prim.Native.Nat.{ℕ, ◌<◌, ◌%◌}
 use lib.Dec.{ltb, eqb}
 use lib.ListN.{length}
+use Rattle.std.specs.Prelude.{Some, None}
 use Rattle.demand.specs.Limits.{tasks_most, handlers_most}
 use Rattle.demand.specs.Refusals.{uneven, miscounted, table_tests, table_refusal}
 use Rattle.demand.specs.Rows.{tasks_of, handlers_of}
@@ -17,7 +18,7 @@ use Rattle.demand.specs.declared.table.Kind.TheVariants.{Task, Handler}
 use Rattle.demand.proofs.Chains.{first-at}
 use Rattle.demand.proofs.Inside.Slices.{rows-count}
 use Rattle.demand.proofs.Refusals.{neither}
-use Rattle.columns.specs.Held.{most_numbers, unheld, table_unheld, held_of, none_held, table_held, RefusedAlike}
+use Rattle.columns.specs.Held.{most_numbers, unheld, table_unheld, held_of, table_held, RefusedAlike}
 use Rattle.columns.specs.Order.{by_column, row_order}
 use Rattle.columns.proofs.Order.{whole, order-length}
 
@@ -104,10 +105,10 @@ refused-alike t h u = record { same = here ∙ sym there; some = positive (uneve
 
 -- ---- what the code holds
 
-pub held_none : (t h : List ℕ) → table_unheld t h ≡ true → table_held t h ≡ none_held
+pub held_none : (t h : List ℕ) → table_unheld t h ≡ true → table_held t h ≡ None
 unfolding table_held
 held_none t h u = rw u
 
-pub held_both : (t h : List ℕ) → table_unheld t h ≡ false → table_held t h ≡ held_of t h
+pub held_both : (t h : List ℕ) → table_unheld t h ≡ false → table_held t h ≡ Some (held_of t h)
 unfolding table_held
 held_both t h u = rw u

@@ -2,9 +2,9 @@
 --   most_numbers kind    == the most numbers of a list that a table may have
 --   unheld kind s       == the list s is too long for a table, or not in whole rows
 --   padded s            == the list s with zeros behind, and its length
---   table_held t h       == the table t, h in row order; neither list where one of them is unheld
+--   table_held t h       == the table t, h in row order; none where a list of it is unheld
 --   RefusedAlike        an unheld table is refused by its own number, 1 or 2, and its row order by the same
-use Rattle.std.specs.Prelude.{Bool, true, false, ◌||◌, List, [], ◌++◌, ◌≡◌, ℕ, ◌-◌, ◌*◌, ◌<◌, ltb, length, replicate}
+use Rattle.std.specs.Prelude.{Bool, true, ◌||◌, List, ◌++◌, Option, Some, None, ◌≡◌, ℕ, ◌-◌, ◌*◌, ◌<◌, ltb, length, replicate}
 use Rattle.demand.specs.Limits.{tasks_most, handlers_most}
 use Rattle.demand.specs.Refusals.{uneven, table_refusal}
 use Rattle.demand.specs.Tests.{pick}
@@ -28,13 +28,10 @@ abbrev pub table_unheld : List ℕ → List ℕ → Bool
 table_unheld t h = unheld Task t || unheld Handler h
 
 abbrev pub held_of : List ℕ → List ℕ → Table
-held_of t h = record { held = true; tasks = padded (row_order Task t); handlers = padded (row_order Handler h) }
+held_of t h = record { tasks = padded (row_order Task t); handlers = padded (row_order Handler h) }
 
-abbrev pub none_held : Table
-none_held = record { held = false; tasks = padded []; handlers = padded [] }
-
-unfoldable pub table_held : List ℕ → List ℕ → Table
-table_held t h = pick (table_unheld t h) none_held (held_of t h)
+unfoldable pub table_held : List ℕ → List ℕ → Option Table
+table_held t h = pick (table_unheld t h) None (Some (held_of t h))
 
 pub record Alike (t h t' h' : List ℕ) : Type 0 where
   pub same : table_refusal t h ≡ table_refusal t' h'

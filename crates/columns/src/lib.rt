@@ -1,8 +1,8 @@
 // Tables held by column: all costs, then all periods, then all deadlines. Put into row order once, here and nowhere else.
 #![tactic(auto)]
 
-ghost use Rattle.std.specs.Prelude.{false, ◌≡◌, ◌*◌, ◌≤◌, ◌<◌};
-ghost use Rattle.columns.specs.Held.{most_numbers, unheld, padded, none_held, table_held};
+ghost use Rattle.std.specs.Prelude.{false, ◌≡◌, ◌*◌, ◌≤◌, ◌<◌, length, take};
+ghost use Rattle.columns.specs.Held.{most_numbers, unheld, padded, table_held};
 ghost use Rattle.columns.specs.Order.{by_column, row_order};
 
 use demand::table;
@@ -15,10 +15,19 @@ pub struct Flat {
     pub len: usize,
 }
 
-// A table in row order; or the word that its counts alone refuse it, and no list.
+impl Flat {
+    // The numbers of the list.
+    pub fn as_slice(&self) -> &[u32]
+        requires { self.now.len ≤ length self.now.numbers }
+        ensures { result.now ≡ take self.now.len self.now.numbers }
+    {
+        &self.numbers[..self.len]
+    }
+}
+
+// A table in row order.
 #[derive(Clone, Copy)]
 pub struct Table {
-    pub held: bool,
     pub tasks: Flat,
     pub handlers: Flat,
 }
@@ -37,8 +46,7 @@ fn most(kind: Kind) -> usize
 fn unheld(kind: Kind, numbers: &[u32]) -> bool
     ensures { result ≡ unheld kind numbers.now }
 {
-    let n = numbers.len();
-    (most(kind) < n) | (0 < n % table::width(kind))
+    (most(kind) < numbers.len()) | !numbers.len().is_multiple_of(table::width(kind))
 }
 
 // Where number i of the row order stands by column, in n rows of w numbers.
@@ -58,41 +66,21 @@ fn in_rows(kind: Kind, numbers: &[u32]) -> Flat
     let w = table::width(kind);
     let n = len / w;
     let mut out = [0u32; TASK_NUMBERS];
-    let mut i: usize = 0;
-    while i < len {
+    for i in 0..len {
         out[i] = numbers[place(w, n, i)];
-        i += 1;
     }
     Flat { numbers: out, len }
 }
 
-// Neither list.
-fn none() -> Table
-    ensures { result ≡ none_held }
-{
-    Table {
-        held: false,
-        tasks: Flat {
-            numbers: [0; TASK_NUMBERS],
-            len: 0,
-        },
-        handlers: Flat {
-            numbers: [0; TASK_NUMBERS],
-            len: 0,
-        },
-    }
-}
-
-// The table of two lists held by column, in row order: at most 192 and 32 numbers are copied, and none of a list that its count refuses.
-pub fn in_row_order(tasks: &[u32], handlers: &[u32]) -> Table
+// The table of two lists held by column, in row order: at most 192 and 32 numbers are copied. None where its counts alone refuse it.
+pub fn in_row_order(tasks: &[u32], handlers: &[u32]) -> Option<Table>
     ensures { result ≡ table_held tasks.now handlers.now }
 {
     if unheld(Kind::Task, tasks) | unheld(Kind::Handler, handlers) {
-        return none();
+        return None;
     }
-    Table {
-        held: true,
+    Some(Table {
         tasks: in_rows(Kind::Task, tasks),
         handlers: in_rows(Kind::Handler, handlers),
-    }
+    })
 }

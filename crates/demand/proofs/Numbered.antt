@@ -72,3 +72,9 @@ answered-err (suc k) a e n = rw (eqb-suc-zero k) (ap Err (sym (refusal_at-number
 pub refused-answered : {A : Type 0} (k : ℕ) (a : A) (r : Result A Refusal) → refused r ≡ k → (k ≡ 0 → r ≡ Ok a) → r ≡ answered k a
 refused-answered k a (Ok b) n v = v (sym n) ∙ answered-ok k a a (sym n) refl
 refused-answered k a (Err e) n v = answered-err k a e n
+
+-- Where there is a number, the refusal is that number's.
+pub answered-refused : {A : Type 0} (k : ℕ) (a : A) → 0 < k → answered k a ≡ Err (refusal_at k)
+unfolding answered
+answered-refused zero a some = absurd (omega arith)
+answered-refused (suc k) a some = rw (eqb-suc-zero k)

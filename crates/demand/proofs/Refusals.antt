@@ -10,7 +10,8 @@ use Prim.Native.Nat.{ℕ, ◌*◌, ◌%◌, ◌≤◌, ◌<◌}
 use lib.Dec.{ltb, eqb}
 use lib.ListN.{length}
 use Rattle.demand.specs.Limits.{figure_most, tasks_most, handlers_most, ticks_most}
-use Rattle.demand.specs.Refusals.{uneven, outside, row_outside, deadline_outside, table_tests, table_refusal, asked_refusal, Fair, FairRow, InRange}
+use Rattle.demand.specs.Numbered.{number_of, refusal_at}
+use Rattle.demand.specs.Refusals.{uneven, outside, row_outside, deadline_outside, table_tests, table_refusal, asked_refusal, Fair, FairRow, InRange, miscounted}
 use Rattle.demand.specs.Rows.{Row, rows_of, width, tasks_of, handlers_of, some, Each, Sound, Valid}
 use Rattle.demand.specs.Tests.{pick, first_refusal, NoneHolds}
 use Rattle.demand.specs.declared.table.Kind.{Kind}
@@ -98,6 +99,18 @@ unfolding table_tests
 refusal-whole t h e =
     let counts = neither (uneven Task t) (uneven Handler h) (table_none t h e).0 in
     (even Task t counts.0, even Handler h counts.1)
+
+-- The number of a refused table is that of a refusal.
+pub table-number : (t h : List ℕ) → 0 < table_refusal t h → number_of (refusal_at (table_refusal t h)) ≡ table_refusal t h
+unfolding table_refusal table_tests first_refusal
+table-number t h = go (uneven Task t || uneven Handler h) (miscounted (tasks_of t) (handlers_of h)) (some row_outside (tasks_of t) || some row_outside (handlers_of h)) (some deadline_outside (tasks_of t))
+  where
+    go : (a b c d : Bool) → let k = pick {A = ℕ} a 1 (pick b 2 (pick c 3 (pick d 13 0))) in 0 < k → number_of (refusal_at k) ≡ k
+    go true b c d p = refl
+    go false true c d p = refl
+    go false false true d p = refl
+    go false false false true p = refl
+    go false false false false p = absurd (omega arith)
 
 -- ---- a call with tests of its own behind the table's
 

@@ -11,11 +11,8 @@ use scheduler::{Fresh, Run};
 pub fn fresh(tasks: &[u32], handlers: &[u32]) -> Fresh
     ensures { FreshSays (row_order Task tasks.now) (row_order Handler handlers.now) result }
 {
-    let table = columns::in_row_order(tasks, handlers);
-    if !table.held {
-        return Run::fresh(tasks, handlers);
+    match columns::in_row_order(tasks, handlers) {
+        Some(table) => Run::fresh(table.tasks.as_slice(), table.handlers.as_slice()),
+        None => Run::fresh(tasks, handlers),
     }
-    let t = table.tasks.numbers;
-    let h = table.handlers.numbers;
-    Run::fresh(&t[..table.tasks.len], &h[..table.handlers.len])
 }

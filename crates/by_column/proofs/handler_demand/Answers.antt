@@ -1,4 +1,3 @@
-use borrow.Author.Tests.{not-true, not-false}
 use Rattle.columns.proofs.Lent.{held-counted, from-rows, from-counts}
 use Rattle.columns.specs.Order.{row_order}
 use Rattle.demand.specs.Answers.{HandlerSays}
@@ -8,24 +7,17 @@ use Rattle.demand.specs.declared.table.Kind.TheVariants.{Handler}
 use Rattle.by_column.proofs.Alike.{handler-alike}
 use Rattle.by_column.proofs.handler_demand.Goals as goal
 
-pub returns-then-not-table : goal.returns-then-not-table
-returns-then-not-table c =
-    let alike = from-counts _ _ _ c.in_row_order-table.ensures (not-true _ c.if-not-table.true) in
-    handler-alike _ _ _ _ alike (handlers_of c.args.handlers.now) (handlers_of (row_order Handler c.args.handlers.now)) c.args.l _ c.handler_demand.ensures
+pub as_slice-requires : goal.as_slice-requires
+as_slice-requires c = (held-counted _ _ _ c.in-Some.ensures).0.0
 
-pub slice_bounds-t-end : goal.slice_bounds-t-end
-slice_bounds-t-end c = (held-counted _ _ _ c.in_row_order-table.ensures).0.0
+pub as_slice-requires-in-Some : goal.as_slice-requires-in-Some
+as_slice-requires-in-Some c = (held-counted _ _ _ c.in-Some.ensures).1.0
 
-pub slice_bounds-handler_demand-end : goal.slice_bounds-handler_demand-end
-slice_bounds-handler_demand-end c = (held-counted _ _ _ c.in_row_order-table.ensures).0.1
+pub returns-in-Some : goal.returns-in-Some
+returns-in-Some c =
+    let told = rw (c.as_slice.ensures, c.as_slice-in-Some.ensures) at c.handler_demand.ensures in
+    from-rows _ _ _ c.in-Some.ensures (λ t h. HandlerSays (asked_refusal t h c.args.l) (handlers_of h) c.args.l c.handler_demand.result) told
 
-pub slice_bounds-h-end : goal.slice_bounds-h-end
-slice_bounds-h-end c = (held-counted _ _ _ c.in_row_order-table.ensures).1.0
-
-pub slice_bounds-handler_demand-end-2 : goal.slice_bounds-handler_demand-end-2
-slice_bounds-handler_demand-end-2 c = (held-counted _ _ _ c.in_row_order-table.ensures).1.1
-
-pub returns : goal.returns
-returns c =
-    from-rows _ _ _ c.in_row_order-table.ensures (λ t h. HandlerSays (asked_refusal t h c.args.l) (handlers_of h) c.args.l c.handler_demand-2.result)
-    (not-false _ c.if-not-table.false) c.handler_demand-2.ensures
+pub returns-in-None : goal.returns-in-None
+returns-in-None c =
+    handler-alike _ _ _ _ (from-counts _ _ c.in-None.ensures) (handlers_of c.args.handlers.now) (handlers_of (row_order Handler c.args.handlers.now)) c.args.l _ c.handler_demand-in-None.ensures

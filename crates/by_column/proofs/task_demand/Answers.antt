@@ -1,4 +1,3 @@
-use borrow.Author.Tests.{not-true, not-false}
 use Rattle.columns.proofs.Lent.{held-counted, from-rows, from-counts}
 use Rattle.columns.specs.Order.{row_order}
 use Rattle.demand.specs.Answers.{DemandSays}
@@ -9,24 +8,17 @@ use Rattle.demand.specs.declared.table.Kind.TheVariants.{Task}
 use Rattle.by_column.proofs.Alike.{demand-alike}
 use Rattle.by_column.proofs.task_demand.Goals as goal
 
-pub returns-then-not-table : goal.returns-then-not-table
-returns-then-not-table c =
-    let alike = from-counts _ _ _ c.in_row_order-table.ensures (not-true _ c.if-not-table.true) in
-    demand-alike _ _ _ _ alike c.args.l (due (tasks_of c.args.tasks.now) c.args.l) (due (tasks_of (row_order Task c.args.tasks.now)) c.args.l) _ c.task_demand.ensures
+pub as_slice-requires : goal.as_slice-requires
+as_slice-requires c = (held-counted _ _ _ c.in-Some.ensures).0.0
 
-pub slice_bounds-t-end : goal.slice_bounds-t-end
-slice_bounds-t-end c = (held-counted _ _ _ c.in_row_order-table.ensures).0.0
+pub as_slice-requires-in-Some : goal.as_slice-requires-in-Some
+as_slice-requires-in-Some c = (held-counted _ _ _ c.in-Some.ensures).1.0
 
-pub slice_bounds-task_demand-end : goal.slice_bounds-task_demand-end
-slice_bounds-task_demand-end c = (held-counted _ _ _ c.in_row_order-table.ensures).0.1
+pub returns-in-Some : goal.returns-in-Some
+returns-in-Some c =
+    let told = rw (c.as_slice.ensures, c.as_slice-in-Some.ensures) at c.task_demand.ensures in
+    from-rows _ _ _ c.in-Some.ensures (λ t h. DemandSays (asked_refusal t h c.args.l) (due (tasks_of t) c.args.l) c.task_demand.result) told
 
-pub slice_bounds-h-end : goal.slice_bounds-h-end
-slice_bounds-h-end c = (held-counted _ _ _ c.in_row_order-table.ensures).1.0
-
-pub slice_bounds-task_demand-end-2 : goal.slice_bounds-task_demand-end-2
-slice_bounds-task_demand-end-2 c = (held-counted _ _ _ c.in_row_order-table.ensures).1.1
-
-pub returns : goal.returns
-returns c =
-    from-rows _ _ _ c.in_row_order-table.ensures (λ t h. DemandSays (asked_refusal t h c.args.l) (due (tasks_of t) c.args.l) c.task_demand-2.result)
-    (not-false _ c.if-not-table.false) c.task_demand-2.ensures
+pub returns-in-None : goal.returns-in-None
+returns-in-None c =
+    demand-alike _ _ _ _ (from-counts _ _ c.in-None.ensures) c.args.l (due (tasks_of c.args.tasks.now) c.args.l) (due (tasks_of (row_order Task c.args.tasks.now)) c.args.l) _ c.task_demand-in-None.ensures

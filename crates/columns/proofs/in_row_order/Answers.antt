@@ -7,7 +7,7 @@ use Rattle.columns.proofs.in_row_order.Goals as goal
 
 pub returns-then-unheld : goal.returns-then-unheld
 returns-then-unheld c =
-    c.none.ensures ∙ sym (held_none c.args.tasks.now c.args.handlers.now (rw (c.unheld.ensures, c.unheld-2.ensures) at c.if-unheld.true))
+    sym (held_none c.args.tasks.now c.args.handlers.now (rw (c.unheld.ensures, c.unheld-2.ensures) at c.if-unheld.true))
 
 pub in_rows-requires : goal.in_rows-requires
 in_rows-requires c =

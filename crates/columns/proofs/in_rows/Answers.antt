@@ -10,7 +10,7 @@ pub nonzero_div-n : goal.nonzero_div-n
 nonzero_div-n c = omega (arith, c.width-w.ensures, width-least c.args.kind)
 
 pub loop-i-init : goal.loop-i-init
-loop-i-init c = (omega arith, filled_zero _ 192)
+loop-i-init c = filled_zero _ 192
 
 pub place-requires : goal.place-requires
 place-requires c =
@@ -37,17 +37,12 @@ bounds-out-i c =
     let is = shape c.args.kind c.args.numbers.now c.width-w.result c.requires c.width-w.ensures in
     omega (arith, is.most)
 
-pub overflow_add-i : goal.overflow_add-i
-overflow_add-i c =
-    let is = shape c.args.kind c.args.numbers.now c.width-w.result c.requires c.width-w.ensures in
-    omega (arith, is.most)
-
 pub loop-i-preserved : goal.loop-i-preserved
 loop-i-preserved c =
     let is = shape c.args.kind c.args.numbers.now c.width-w.result c.requires c.width-w.ensures in
-    (omega arith, filled-turn _ 192 c.loop-i.i _ c.loop-i.out (omega (arith, is.most)) (ap (λ (k : ℕ). get_or c.args.numbers.now k 0) c.place.ensures.0) c.loop-i.invariant.1)
+    filled-turn _ 192 c.loop-i.i _ c.loop-i.out (omega (arith, is.most)) (ap (λ (k : ℕ). get_or c.args.numbers.now k 0) c.place.ensures.0) c.loop-i.invariant
 
 pub returns : goal.returns
 returns c =
     let is = shape c.args.kind c.args.numbers.now c.width-w.result c.requires c.width-w.ensures in
-    filled-end c.args.kind c.args.numbers.now c.loop-i.out c.width-w.result _ c.loop-i.i c.requires is c.loop-i.invariant.0 (omega arith) c.loop-i.invariant.1
+    filled-end c.args.kind c.args.numbers.now c.loop-i.out c.width-w.result _ c.loop-i.i c.requires is (omega arith) (omega arith) c.loop-i.invariant

@@ -1,5 +1,4 @@
 use mathlib.Core.Path.{◌≡◌}
-use Prim.Native.Nat.{◌-◌, ◌≤◌}
 use lib.ListN.{get_or}
 use Rattle.columns.specs.Order.{by_column}
 use Rattle.columns.proofs.Filled.{filled}
@@ -7,7 +6,4 @@ use Rattle.columns.proofs.in_rows.Given as goal
 
 -- So many numbers stand in row order.
 abbrev pub invariant-loop-i : goal.invariant-loop-i
-invariant-loop-i l = (l.i ≤ l.len) × (l.out ≡ filled (λ k. get_or l.numbers (by_column l.w l.n k) 0) 192 l.i)
-
-abbrev pub decreases-loop-i : goal.decreases-loop-i
-decreases-loop-i l = l.len - l.i
+invariant-loop-i l = (l.out ≡ filled (λ k. get_or l.numbers (by_column l.w l.n k) 0) 192 l.i)

@@ -1,27 +1,19 @@
-use borrow.Author.Tests.{not-true, not-false}
 use Rattle.columns.proofs.Lent.{held-counted, from-rows, from-counts}
 use Rattle.scheduler.specs.Promise.{FreshSays}
 use Rattle.run_by_column.proofs.Alike.{fresh-alike}
 use Rattle.run_by_column.proofs.fresh.Goals as goal
 
-pub returns-then-not-table : goal.returns-then-not-table
-returns-then-not-table c =
-    let alike = from-counts _ _ _ c.in_row_order-table.ensures (not-true _ c.if-not-table.true) in
-    fresh-alike _ _ _ _ alike _ c.fresh.ensures
+pub as_slice-requires : goal.as_slice-requires
+as_slice-requires c = (held-counted _ _ _ c.in-Some.ensures).0.0
 
-pub slice_bounds-t-end : goal.slice_bounds-t-end
-slice_bounds-t-end c = (held-counted _ _ _ c.in_row_order-table.ensures).0.0
+pub as_slice-requires-in-Some : goal.as_slice-requires-in-Some
+as_slice-requires-in-Some c = (held-counted _ _ _ c.in-Some.ensures).1.0
 
-pub slice_bounds-fresh-end : goal.slice_bounds-fresh-end
-slice_bounds-fresh-end c = (held-counted _ _ _ c.in_row_order-table.ensures).0.1
+pub returns-in-Some : goal.returns-in-Some
+returns-in-Some c =
+    let told = rw (c.as_slice.ensures, c.as_slice-in-Some.ensures) at c.fresh.ensures in
+    from-rows _ _ _ c.in-Some.ensures (λ t h. FreshSays t h c.fresh.result) told
 
-pub slice_bounds-h-end : goal.slice_bounds-h-end
-slice_bounds-h-end c = (held-counted _ _ _ c.in_row_order-table.ensures).1.0
-
-pub slice_bounds-fresh-end-2 : goal.slice_bounds-fresh-end-2
-slice_bounds-fresh-end-2 c = (held-counted _ _ _ c.in_row_order-table.ensures).1.1
-
-pub returns : goal.returns
-returns c =
-    from-rows _ _ _ c.in_row_order-table.ensures (λ t h. FreshSays t h c.fresh-2.result)
-    (not-false _ c.if-not-table.false) c.fresh-2.ensures
+pub returns-in-None : goal.returns-in-None
+returns-in-None c =
+    fresh-alike _ _ _ _ (from-counts _ _ c.in-None.ensures) _ c.fresh-in-None.ensures
