@@ -4,11 +4,14 @@ use mathlib.Core.List.{List, [], ◌∷◌}
 use mathlib.Core.Path.{◌≡◌, refl}
 use native.Mathlib.Omega.{arith}
 use Prim.Native.Nat.{ℕ, zero, suc}
+use Rattle.std.specs.Prelude.{Result}
 use Rattle.demand.specs.Demands.{called, grow, taken, handled, due, Fails}
 use Rattle.demand.specs.Multiples.{lcm_from}
+use Rattle.demand.specs.Numbered.{answered}
 use Rattle.demand.specs.Refusals.{table_tests}
 use Rattle.demand.specs.Rows.{row_at, tasks_of, handlers_of, total, some}
 use Rattle.demand.specs.Tests.{first_refusal}
+use Rattle.demand.specs.declared.refusal.Refusal.{Refusal}
 use Rattle.euclid.specs.Euclid.{gcd, lcm, euclid}
 use Rattle.guards.specs.Answers.{figures, figures_by, RowsSay, rows_told}
 use Rattle.guards.specs.Guards.{guard_tests, guard_refusal}
@@ -38,19 +41,19 @@ abbrev burst : ℕ → Guard
 burst n = Bursty n 1 1 1 1 1 1 40
 
 strict-rows : RowsSay (strict 2) (rows_told 5 2 40)
-unfolding figures figures_by guard_refusal guard_tests first_refusal
+unfolding figures figures_by guard_refusal guard_tests first_refusal answered
 strict-rows = record { answer = refl; figured = refl }
 
 strict-eased-rows : RowsSay (strict 1) (rows_told 4 2 40)
-unfolding figures figures_by guard_refusal guard_tests first_refusal
+unfolding figures figures_by guard_refusal guard_tests first_refusal answered
 strict-eased-rows = record { answer = refl; figured = refl }
 
 burst-rows : RowsSay (burst 2) (rows_told 7 3 40)
-unfolding figures figures_by guard_refusal guard_tests first_refusal
+unfolding figures figures_by guard_refusal guard_tests first_refusal answered
 burst-rows = record { answer = refl; figured = refl }
 
 burst-eased-rows : RowsSay (burst 1) (rows_told 4 3 40)
-unfolding figures figures_by guard_refusal guard_tests first_refusal
+unfolding figures figures_by guard_refusal guard_tests first_refusal answered
 burst-eased-rows = record { answer = refl; figured = refl }
 
 -- Less work, and a burst of one.
@@ -100,14 +103,14 @@ passes =
     period-ends ts hs (readable-in-range tasks (handlers 5 7) readable) (omega (arith, h-is, w-is))
     (λ l from within. short-zero ts hs 40 nothing-lacks l from (omega (arith, h-is)))
 
-pub yes-here : (r : Answer) → VerdictSays tasks (handlers 5 7) r → (promise.figures r).word ≡ fits
+pub yes-here : (r : Result Answer Refusal) → VerdictSays tasks (handlers 5 7) r → (promise.figures r).word ≡ fits
 unfolding VerdictSays
 yes-here r says = only-fits tasks (handlers 5 7) (promise.figures r) readable passes says
 
 -- ---- less work under the strict guard, a shorter burst under the bursty one: a yes each time
 
 abbrev StaysYes : List ℕ → Type 0
-StaysYes h' = (r r' : Answer) → VerdictSays tasks (handlers 5 7) r → VerdictSays tasks h' r' → (promise.figures r').word ≡ fits
+StaysYes h' = (r r' : Result Answer Refusal) → VerdictSays tasks (handlers 5 7) r → VerdictSays tasks h' r' → (promise.figures r').word ≡ fits
 
 pub work-lowered : StaysYes (handlers 4 7)
 unfolding MilderKeeps handlers_of

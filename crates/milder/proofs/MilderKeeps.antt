@@ -10,7 +10,6 @@ use Prim.Native.Nat.{ℕ, ◌≤◌, ◌<◌}
 use Rattle.demand.specs.Refusals.{FairRow, Fair}
 use Rattle.demand.specs.Rows.{Row, row_at, handlers_of, Each}
 use Rattle.demand.proofs.Inside.Places.{each_at}
-use Rattle.guards.specs.Answers.{rows_told}
 use Rattle.guards.specs.Guards.{handler_row}
 use Rattle.verdict.specs.Promise.{figures, SaysFits, VerdictSays}
 use Rattle.verdict.proofs.Lightening.{says-fits, only-fits}

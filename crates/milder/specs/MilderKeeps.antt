@@ -3,8 +3,9 @@
 --   OthersKept h h' i j     h' has as many numbers as h, and the same handlers at all other places
 --   MilderKeeps             a table that holds the two rows of a guard among its handlers, wherever they stand, and fits, fits too with the
 --                           rows of a milder guard in their place: no answer but a yes is allowed on it, so it is readable too
-use Rattle.std.specs.Prelude.{List, ◌≡◌, ℕ, length}
+use Rattle.std.specs.Prelude.{List, ◌≡◌, ℕ, length, Result}
 use Rattle.demand.specs.Rows.{row_at, handlers_of}
+use Rattle.demand.specs.declared.refusal.Refusal.{Refusal}
 use Rattle.guards.specs.Answers.{RowsSay, rows_told}
 use Rattle.guards.specs.Guards.{handler_row}
 use Rattle.guards.specs.declared.Guard.{Guard}
@@ -24,7 +25,7 @@ pub record OthersKept (h h' : List ℕ) (i j : ℕ) : Type 0 where
 -- the guard g, whose rows a/p and b/p the table t, h holds, and the milder g', whose rows a'/p' and b'/p' the table t, h' holds
 unfoldable pub MilderKeeps : Type 0
 MilderKeeps =
-    (g g' : Guard) (a b p a' b' p' : ℕ) (t h h' : List ℕ) (i j : ℕ) (r r' : Answer)
+    (g g' : Guard) (a b p a' b' p' : ℕ) (t h h' : List ℕ) (i j : ℕ) (r r' : Result Answer Refusal)
     → RowsSay g (rows_told a b p) → RowsSay g' (rows_told a' b' p') → Milder g' g
     → HoldsRows h i j a b p → HoldsRows h' i j a' b' p' → OthersKept h h' i j
     → VerdictSays t h r → (figures r).word ≡ fits

@@ -3,8 +3,12 @@ use mathlib.Core.List.{List}
 use mathlib.Core.Path.{◌≡◌, refl, sym, ap, ◌∙◌}
 use native.Mathlib.Omega.{arith}
 use Prim.Native.Nat.{ℕ, ◌<◌}
+use Rattle.std.specs.Prelude.{Result, Option, Ok, None, Err, Some}
+use Rattle.demand.proofs.Numbered.{number-pos, number-once}
+use Rattle.demand.specs.Numbered.{number_of}
 use Rattle.demand.specs.Rows.{tasks_of, handlers_of, Positive, Valid}
 use Rattle.demand.proofs.Inside.Sizes.{fair-positive}
+use Rattle.demand.specs.declared.refusal.Refusal.{Refusal}
 use Rattle.segments.specs.Inside.{Outcome, fine, judge}
 use Rattle.segments.specs.Inside as inside
 use Rattle.segments.specs.Promise.{Word, Figures, figures, broken_of, refusal_of, judge_refusal}
@@ -12,8 +16,6 @@ use Rattle.segments.specs.Promise.{SaysAccepted, SaysBroken, SaysBy, Says, Judge
 use Rattle.segments.specs.Promise.Word.{accepted, broken, refused}
 use Rattle.segments.specs.Segments.{segments_of, InOrder, at}
 use Rattle.segments.specs.Unique.{JudgeUnique}
-use Rattle.segments.specs.declared.Answer.{Answer}
-use Rattle.segments.specs.declared.Answer.TheVariants as answer
 use Rattle.segments.proofs.Accepting.{accepted-sound, first-once}
 use Rattle.segments.proofs.Walks.Lent.{ordered-in}
 use Rattle.segments.proofs.Refusals.{Answered, answered}
@@ -21,10 +23,14 @@ use Rattle.segments.proofs.Says.{Ends, judge-fine, judge-broken}
 use Rattle.verdict.proofs.Readable.{readable-in-range}
 
 module _ (t h s : List ℕ) (L : ℕ) where
-  -- A refusal is handed on.
-  pub says-refused : (k : ℕ) → k ≡ judge_refusal t h s L → 0 < k → JudgeSays t h s L (answer.Refused k)
+  -- A refusal is handed on, by its number,
+  pub refused-says : (k : ℕ) → k ≡ judge_refusal t h s L → 0 < k → Says t h s L (refusal_of k)
+  unfolding Says SaysBy
+  refused-says k e some = record { unanswered = omega (arith, e); figures = ap refusal_of e }
+
+  pub says-refused : (k : Refusal) → number_of k ≡ judge_refusal t h s L → JudgeSays t h s L (Err k)
   unfolding JudgeSays Says SaysBy figures
-  says-refused k e some = record { unanswered = omega (arith, e); figures = ap refusal_of e }
+  says-refused k e = refused-says (number_of k) e (number-pos k)
 
   module _ (none : judge_refusal t h s L ≡ 0) where
     ok : Answered t h s L
@@ -42,7 +48,7 @@ module _ (t h s : List ℕ) (L : ℕ) where
     order = ordered-in _ _ L 0 (segments_of s) ok.ordered
 
     -- What the walk over the segments tells is what the rules say.
-    pub says-accepted : judge (tasks_of t) (handlers_of h) (at (segments_of s)) L 0 (segments_of s) ≡ fine → JudgeSays t h s L answer.Accepted
+    pub says-accepted : judge (tasks_of t) (handlers_of h) (at (segments_of s)) L 0 (segments_of s) ≡ fine → JudgeSays t h s L (Ok None)
     unfolding JudgeSays Says SaysBy figures
     says-accepted e = record {
       answered = none;
@@ -52,7 +58,7 @@ module _ (t h s : List ℕ) (L : ℕ) where
 
     -- So of a tick at which a rule is broken.
     pub says-broken : (z : ℕ) → judge (tasks_of t) (handlers_of h) (at (segments_of s)) L 0 (segments_of s) ≡ inside.broken z
-        → JudgeSays t h s L (answer.Broken z)
+        → JudgeSays t h s L (Ok (Some z))
     unfolding JudgeSays Says SaysBy figures
     says-broken z e = record {
       answered = none;
@@ -87,17 +93,17 @@ says-unique t h s L f g = go f.word g.word
     go refused refused a b = a.figures ∙ sym b.figures
 
 -- Answers with the same figures are the same.
-figures-once : (q r : Answer) → figures q ≡ figures r → q ≡ r
+figures-once : (q r : Result (Option ℕ) Refusal) → figures q ≡ figures r → q ≡ r
 unfolding figures
-figures-once answer.Accepted answer.Accepted e = refl
-figures-once answer.Accepted (answer.Broken x) e = cc (ap (λ (f : Figures). f.word) e)
-figures-once answer.Accepted (answer.Refused k) e = cc (ap (λ (f : Figures). f.word) e)
-figures-once (answer.Broken x) answer.Accepted e = cc (ap (λ (f : Figures). f.word) e)
-figures-once (answer.Broken x) (answer.Broken y) e = λ j. answer.Broken (e j).tick
-figures-once (answer.Broken x) (answer.Refused k) e = cc (ap (λ (f : Figures). f.word) e)
-figures-once (answer.Refused k) answer.Accepted e = cc (ap (λ (f : Figures). f.word) e)
-figures-once (answer.Refused k) (answer.Broken y) e = cc (ap (λ (f : Figures). f.word) e)
-figures-once (answer.Refused k) (answer.Refused l) e = λ j. answer.Refused (e j).code
+figures-once (Ok None) (Ok None) e = refl
+figures-once (Ok None) (Ok (Some x)) e = cc (ap (λ (f : Figures). f.word) e)
+figures-once (Ok None) (Err k) e = cc (ap (λ (f : Figures). f.word) e)
+figures-once (Ok (Some x)) (Ok None) e = cc (ap (λ (f : Figures). f.word) e)
+figures-once (Ok (Some x)) (Ok (Some y)) e = λ j. Ok (Some (e j).tick)
+figures-once (Ok (Some x)) (Err k) e = cc (ap (λ (f : Figures). f.word) e)
+figures-once (Err k) (Ok None) e = cc (ap (λ (f : Figures). f.word) e)
+figures-once (Err k) (Ok (Some y)) e = cc (ap (λ (f : Figures). f.word) e)
+figures-once (Err k) (Err l) e = ap Err (number-once k l (ap (λ (f : Figures). f.code) e))
 
 -- So are two answers.
 pub judge-unique : JudgeUnique

@@ -17,7 +17,7 @@ use Rattle.segments.specs.Inside.{Outcome, fine, broken, judge, waits_of, lates_
 use Rattle.segments.specs.Promise.{Figures, figures, accepted_of, broken_of, refusal_of, disordered, judge_tests, judge_refusal}
 use Rattle.segments.specs.Promise.{Says, JudgeSays}
 use Rattle.segments.specs.Segments.{segments_of, at}
-use Rattle.segments.proofs.Answers.{says-refused, says-accepted, says-broken, says-unique}
+use Rattle.segments.proofs.Answers.{refused-says, says-accepted, says-broken, says-unique}
 use Rattle.verdict.specs.Multiples.{common}
 use Rattle.verdict.specs.Promise.{verdict_refusal}
 
@@ -44,7 +44,7 @@ answer-says c =
         → Says c.tasks c.handlers c.segments c.span (answer_by k o)
     go zero none fine e = says-accepted c.tasks c.handlers c.segments c.span none e
     go zero none (broken z) e = says-broken c.tasks c.handlers c.segments c.span none z e
-    go (suc k) some o e = says-refused c.tasks c.handlers c.segments c.span (suc k) (sym some) (omega arith)
+    go (suc k) some o e = refused-says c.tasks c.handlers c.segments c.span (suc k) (sym some) (omega arith)
 
 -- and nothing else.
 case-holds : (c : Case) → answer_of c ≡ c.told → CaseHolds c

@@ -4,12 +4,13 @@ use mathlib.Core.Logic.{◌⊎◌, inl, inr}
 use mathlib.Core.Path.{◌≡◌, subst}
 use native.Mathlib.Omega.{arith}
 use Prim.Native.Nat.{ℕ, ◌≤◌, ◌<◌}
+use Rattle.std.specs.Prelude.{Result, Ok, None}
 use Rattle.demand.specs.Rows.{tasks_of, handlers_of}
 use Rattle.demand.proofs.Divide.{le-or-lt}
+use Rattle.demand.specs.declared.refusal.Refusal.{Refusal}
 use Rattle.segments.specs.Passing.{AcceptedShort}
 use Rattle.segments.specs.Promise.{figures, Says, SaysBy, SaysAccepted, JudgeSays}
 use Rattle.segments.specs.Segments.{segments_of, at}
-use Rattle.segments.specs.declared.Answer.TheVariants as answer
 use Rattle.segments.proofs.Answers.{valid, positive}
 use Rattle.segments.proofs.Passing.{accepted-passes}
 use Rattle.verdict.specs.Promise as verdict
@@ -18,12 +19,12 @@ use Rattle.verdict.specs.Promise.Word.{misses}
 use Rattle.verdict.specs.declared.Answer as sheet
 
 -- Of the accepted, by its figures.
-accepted-says : (t h s : List ℕ) (L : ℕ) → JudgeSays t h s L answer.Accepted → SaysAccepted t h s L (figures answer.Accepted)
+accepted-says : (t h s : List ℕ) (L : ℕ) → JudgeSays t h s L (Ok None) → SaysAccepted t h s L (figures (Ok None))
 unfolding JudgeSays Says SaysBy figures
 accepted-says t h s L says = says
 
 -- Of the sheet, by its word.
-misses-says : (t h : List ℕ) (v : sheet.Answer) → VerdictSays t h v → (verdict.figures v).word ≡ misses → SaysMisses t h (verdict.figures v)
+misses-says : (t h : List ℕ) (v : Result sheet.Answer Refusal) → VerdictSays t h v → (verdict.figures v).word ≡ misses → SaysMisses t h (verdict.figures v)
 unfolding VerdictSays verdict.Says verdict.SaysBy
 misses-says t h v says e = subst (λ (w : verdict.Word). verdict.SaysBy w t h (verdict.figures v)) e says
 
@@ -31,7 +32,7 @@ misses-says t h v says e = subst (λ (w : verdict.Word). verdict.SaysBy w t h (v
 pub accepted-short : AcceptedShort
 accepted-short t h s L says v told word = go (le-or-lt (verdict.figures v).interval L)
   where
-    here : SaysAccepted t h s L (figures answer.Accepted)
+    here : SaysAccepted t h s L (figures (Ok None))
     here = accepted-says t h s L says
 
     miss : SaysMisses t h (verdict.figures v)

@@ -9,18 +9,20 @@ use borrow.Author.Tests.{le-ltb, lt-ltb, ltb-false, eqb-false, eq-eqb, ne_eqb}
 use lib.Dec.{eqb, ltb}
 use lib.ListN.{length}
 use Prim.Native.Nat.{ℕ, ◌/◌, ◌%◌, ◌≤◌, ◌<◌}
-use Rattle.demand.specs.Multiples.{capped}
+use Rattle.std.specs.Prelude.{None}
+use Rattle.demand.proofs.Numbered.{number-pos}
+use Rattle.demand.specs.Multiples.{limited}
+use Rattle.demand.specs.Numbered.{number_of}
 use Rattle.demand.specs.Refusals.{table_refusal}
 use Rattle.demand.specs.Rows.{tasks_of, handlers_of}
 use Rattle.demand.specs.Tests.{pick, first_refusal}
-use Rattle.demand.proofs.Inside.Sizes.{fair-positive}
-use Rattle.demand.proofs.Periods.{capped-zero}
-use Rattle.demand.proofs.Refusals.{refusal-in-range, neither}
+use Rattle.demand.proofs.Periods.{limited-none}
+use Rattle.demand.proofs.Refusals.{neither}
+use Rattle.demand.specs.declared.refusal.Refusal.{Refusal}
 use Rattle.segments.specs.Promise.{segments_most, disordered, unreadable, span_outside, judge_tests, judge_refusal}
 use Rattle.segments.specs.Segments.{segment_width, segments_of}
 use Rattle.verdict.specs.Multiples.{common}
 use Rattle.verdict.specs.Promise.{verdict_refusal}
-use Rattle.verdict.proofs.Divisors.{common-positive}
 use Rattle.verdict.proofs.Readable.{refused-4, refused-table}
 
 module _ (t h s : List ℕ) (L : ℕ) where
@@ -50,24 +52,17 @@ module _ (t h s : List ℕ) (L : ℕ) where
     refused_none e f = sym (behind ∙ rw (e, f))
 
   -- From what the code has in hand: the table's own,
-  pub refused-own : (number : ℕ) → number ≡ table_refusal t h → 0 < number → number ≡ judge_refusal t h s L
-  refused-own number e some =
+  pub refused-own : (k : Refusal) → number_of k ≡ table_refusal t h → number_of k ≡ judge_refusal t h s L
+  refused-own k e =
+      let some = number-pos k in
       let own : verdict_refusal t h ≡ table_refusal t h = refused-table t h (omega (arith, e)) in
       e ∙ sym (unreadable-table (omega (arith, e, own)) ∙ own)
 
-  -- 4,
-  module _ (own : table_refusal t h ≡ 0) (m : ℕ) (em : m ≡ capped (common (tasks_of t) (handlers_of h))) where
-    positive : 0 < common (tasks_of t) (handlers_of h)
-    positive =
-        let range = refusal-in-range t h own in
-        common-positive (tasks_of t) (handlers_of h) (fair-positive (tasks_of t) range.tasks)
-        (fair-positive (handlers_of h) range.handlers)
-
-    -- H above its limit.
-    pub refused-limit : m ≡ 0 → 4 ≡ judge_refusal t h s L
-    refused-limit z =
-        let four : verdict_refusal t h ≡ 4 = refused-4 t h own (capped-zero (common (tasks_of t) (handlers_of h)) positive (sym z ∙ em)) in
-        sym (unreadable-table (omega (arith, four)) ∙ four)
+  -- 4, where H is above its limit.
+  pub refused-limit : table_refusal t h ≡ 0 → None ≡ limited (common (tasks_of t) (handlers_of h)) → 4 ≡ judge_refusal t h s L
+  refused-limit own none =
+      let four : verdict_refusal t h ≡ 4 = refused-4 t h own (limited-none (common (tasks_of t) (handlers_of h)) none) in
+      sym (unreadable-table (omega (arith, four)) ∙ four)
 
   -- The test of 17, of the H in hand.
   pub span-read : (m : ℕ) → m ≡ common (tasks_of t) (handlers_of h) → span_outside t h L ≡ (eqb L 0 || ltb m L)

@@ -3,9 +3,9 @@
 --   cases          == the list
 --   CaseHolds c    the promise holds of these figures, and whatever it allows has them
 --   EveryCase cs   each case of the list holds
-use Rattle.std.specs.Prelude.{List, [], ◌∷◌, ◌++◌, ◌≡◌, ℕ, zero, suc}
+use Rattle.std.specs.Prelude.{List, [], ◌∷◌, ◌++◌, ◌≡◌, ℕ, zero, suc, Result, Option}
+use Rattle.demand.specs.declared.refusal.Refusal.{Refusal}
 use Rattle.segments.specs.Promise.{Figures, figures, accepted_of, broken_of, refusal_of, Says, JudgeSays}
-use Rattle.segments.specs.declared.Answer.{Answer}
 
 pub record Case : Type 0 where
   pub tasks : List ℕ
@@ -119,7 +119,7 @@ cases = accepted_cases ++ broken_cases ++ refused_cases
 
 pub record CaseHolds (c : Case) : Type 0 where
   pub holds : Says c.tasks c.handlers c.segments c.span c.told
-  pub only : (r : Answer) → JudgeSays c.tasks c.handlers c.segments c.span r → figures r ≡ c.told
+  pub only : (r : Result (Option ℕ) Refusal) → JudgeSays c.tasks c.handlers c.segments c.span r → figures r ≡ c.told
 
 abbrev pub EveryCase : List Case → Type 0
 EveryCase [] = Unit

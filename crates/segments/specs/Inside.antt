@@ -17,12 +17,12 @@
 --   places_most, who_at p    == how many places rows have, and who stands at place p; place_of kind row is the place of a row
 --   seg_of s                == the segment that the code holds as s
 --   given_at given p        == the ticks that the row at place p was given; handler_given given j the handler at j
---   broken_at x y b         == an outcome as a number: one more than the tick, 0 where it is fine
+--   broken_at x y b         == an outcome as a number: one more than the tick, 0 where it is fine; tick_told n is the tick, where there is one
 --   piece_broken, segment_broken   == that of a piece, and of a gap and the segment behind it, by the ticks given
 --   Looked, ReadyHandlers, ReadyTasks, Ready   what a look at a row, at all handlers, all tasks and a piece counts on
 --   Counted ts hs σ given a      given has the ticks that the schedule gave each row before a
 --   Walked t h s L given a i     where a walk over the segments s has come to
-use Rattle.std.specs.Prelude.{false, List, [], ◌∷◌, ◌≡◌, ℕ, zero, suc, ◌+◌, ◌-◌, ◌*◌, ◌/◌, ◌%◌, ◌≤◌, ◌<◌, min, max, ltb, length, get_or, drop}
+use Rattle.std.specs.Prelude.{false, List, [], ◌∷◌, ◌≡◌, ℕ, zero, suc, ◌+◌, ◌-◌, ◌*◌, ◌/◌, ◌%◌, ◌≤◌, ◌<◌, min, max, ltb, length, get_or, drop, Option, Some, None}
 use Rattle.demand.specs.Demands.{ceil}
 use Rattle.demand.specs.Limits.{tasks_most, handlers_most, ticks_most}
 use Rattle.demand.specs.Refusals.{FairRow, InRange}
@@ -140,6 +140,10 @@ handler_given given j = given_at given (tasks_most + j)
 -- One more than the tick at which a piece to b is broken first, 0 where it is fine.
 abbrev pub broken_at : ℕ → ℕ → ℕ → ℕ
 broken_at x y b = cond (b - x) (cond (suc b - y) 0 (suc (min x y))) (suc (min x y))
+
+abbrev pub tick_told : ℕ → Option ℕ
+tick_told zero = None
+tick_told (suc z) = Some z
 
 abbrev pub piece_broken : List Row → List Row → List ℕ → ℕ → ℕ → ℕ → ℕ
 piece_broken ts hs given runner a b =

@@ -1,13 +1,13 @@
 -- What an accepted schedule says of a table's lengths: it and a sheet's no never contradict each other.
 --   AcceptedPasses   a schedule that is accepted up to a span shows that no length up to it fails
 --   AcceptedShort    so where the call accepts a schedule and the sheet of its table says no, the length that fails is above the span
-use Rattle.std.specs.Prelude.{List, ◌≡◌, ℕ, ◌≤◌, ◌<◌}
+use Rattle.std.specs.Prelude.{List, ◌≡◌, ℕ, ◌≤◌, ◌<◌, Result, Ok, None}
 use Rattle.demand.specs.Demands.{Passes}
 use Rattle.demand.specs.Rows.{Row, Positive, Valid}
+use Rattle.demand.specs.declared.refusal.Refusal.{Refusal}
 use Rattle.segments.specs.Given.{Who}
 use Rattle.segments.specs.Promise.{JudgeSays}
 use Rattle.segments.specs.Rules.{Accepted}
-use Rattle.segments.specs.declared.Answer.TheVariants as answer
 use Rattle.verdict.specs.Promise as verdict
 use Rattle.verdict.specs.Promise.{VerdictSays}
 use Rattle.verdict.specs.Promise.Word.{misses}
@@ -19,5 +19,5 @@ AcceptedPasses =
 
 abbrev pub AcceptedShort : Type 0
 AcceptedShort =
-    (t h s : List ℕ) (L : ℕ) → JudgeSays t h s L answer.Accepted
-    → (v : sheet.Answer) → VerdictSays t h v → (verdict.figures v).word ≡ misses → L < (verdict.figures v).interval
+    (t h s : List ℕ) (L : ℕ) → JudgeSays t h s L (Ok None)
+    → (v : Result sheet.Answer Refusal) → VerdictSays t h v → (verdict.figures v).word ≡ misses → L < (verdict.figures v).interval

@@ -11,14 +11,14 @@
 --   numbers_of g            == the numbers of the figures g, in the order of the printed line
 --   answer_numbers r        == those of an answer, behind the number of its word
 --   JudgeSays t h s L r    r is the answer to the table t, h, the segments s and the span L
-use Rattle.std.specs.Prelude.{Bool, true, false, ◌||◌, List, [], ◌∷◌, ◌≡◌, ℕ, ◌/◌, ◌%◌, ◌<◌, eqb, leb, ltb, length}
+use Rattle.std.specs.Prelude.{Bool, true, false, ◌||◌, List, [], ◌∷◌, ◌≡◌, ℕ, ◌/◌, ◌%◌, ◌<◌, eqb, leb, ltb, length, Result, Ok, Err, Option, Some, None}
+use Rattle.demand.specs.Numbered.{number_of}
 use Rattle.demand.specs.Rows.{tasks_of, handlers_of}
 use Rattle.demand.specs.Tests.{first_refusal}
+use Rattle.demand.specs.declared.refusal.Refusal.{Refusal}
 use Rattle.segments.specs.Given.{Who, nobody, task, handler}
 use Rattle.segments.specs.Rules.{Accepted, FirstBroken}
 use Rattle.segments.specs.Segments.{Seg, segments_of, segment_width, at}
-use Rattle.segments.specs.declared.Answer.{Answer}
-use Rattle.segments.specs.declared.Answer.TheVariants as answer
 use Rattle.verdict.specs.Multiples.{common}
 use Rattle.verdict.specs.Promise.{verdict_refusal}
 
@@ -77,10 +77,10 @@ broken_of tick = record { word = broken; code = 0; tick = tick }
 abbrev pub refusal_of : ℕ → Figures
 refusal_of number = record { word = refused; code = number; tick = 0 }
 
-unfoldable pub figures : Answer → Figures
-figures answer.Accepted = accepted_of
-figures (answer.Broken tick) = broken_of tick
-figures (answer.Refused number) = refusal_of number
+unfoldable pub figures : Result (Option ℕ) Refusal → Figures
+figures (Ok None) = accepted_of
+figures (Ok (Some tick)) = broken_of tick
+figures (Err e) = refusal_of (number_of e)
 
 abbrev pub numbers_of : Figures → List ℕ
 numbers_of g = g.code ∷ g.tick ∷ []
@@ -90,7 +90,7 @@ word_number accepted = 0
 word_number broken = 1
 word_number refused = 2
 
-abbrev pub answer_numbers : Answer → List ℕ
+abbrev pub answer_numbers : Result (Option ℕ) Refusal → List ℕ
 answer_numbers r = word_number (figures r).word ∷ numbers_of (figures r)
 
 -- ---- what they say
@@ -120,5 +120,5 @@ SaysBy refused t h s L g = SaysRefused t h s L g
 unfoldable pub Says : List ℕ → List ℕ → List ℕ → ℕ → Figures → Type 0
 Says t h s L g = SaysBy g.word t h s L g
 
-unfoldable pub JudgeSays : List ℕ → List ℕ → List ℕ → ℕ → Answer → Type 0
+unfoldable pub JudgeSays : List ℕ → List ℕ → List ℕ → ℕ → Result (Option ℕ) Refusal → Type 0
 JudgeSays t h s L r = Says t h s L (figures r)

@@ -1,47 +1,19 @@
 // A look at one row over a piece, a stretch of ticks from a on: it was given some ticks before; far is told where no rule is broken.
+// A number and no Option, since the least of what all rows tell is asked for, and far is above all ticks of the piece.
 ghost use Rattle.std.specs.Prelude.{◌≡◌, suc, ◌-◌, ◌<◌, ◌≤◌, min, max, length};
 ghost use Rattle.demand.specs.Demands.{ceil};
 ghost use Rattle.demand.specs.Limits.{tasks_most};
 ghost use Rattle.demand.specs.Rows.{rows_of, row_at, row_of, Sound};
 ghost use Rattle.segments.specs.Inside.{wait_tick, late_clock, lapse_tick, heavy_lapse, lapse_of, run_of, Looked};
 
-use demand::table;
-use demand::table::{Kind, Row};
-
-pub fn lesser(x: u64, y: u64) -> u64
-    ensures { result ≡ min x y }
-{
-    if x < y { x } else { y }
-}
-
-fn greater(x: u64, y: u64) -> u64
-    ensures { result ≡ max x y }
-{
-    if x < y { y } else { x }
-}
-
-// What x is above y, 0 where it is not.
-fn above(x: u64, y: u64) -> u64
-    ensures { result ≡ x - y }
-{
-    if y < x { x - y } else { 0 }
-}
-
-// The row at place i of a flat list.
-pub fn row_of(kind: Kind, s: &[u32], i: usize) -> Row
-    requires { (i < tasks_most) × (i < length (rows_of kind s.now)) }
-    ensures { row_of result ≡ row_at (rows_of kind s.now) i }
-{
-    let at = table::width(kind) * i;
-    table::head(kind, &s[at..])
-}
+use demand::table::Row;
 
 // The first tick from a on at which a row that is given no more is owed work.
 pub fn wait(row: Row, given: u64, a: u64) -> u64
     requires { Looked (row_of row) given a }
     ensures { result ≡ max a (wait_tick (row_of row) given) }
 {
-    greater(a, given / row.cost * row.period)
+    a.max(given / row.cost * row.period)
 }
 
 // The deadline of the first job that is not complete, of a task that is given no more.
@@ -71,7 +43,7 @@ pub fn lapse(row: Row, given: u64, a: u64, far: u64) -> u64
     requires { Looked (row_of row) given a }
     ensures { result ≡ lapse_of far a row.cost row.period given }
 {
-    let calls = (a + 1 + (row.period - 1)) / row.period;
+    let calls = (a + 1).div_ceil(row.period);
     if row.cost < row.period {
         light_lapse(row, given, a, calls)
     } else {
@@ -84,8 +56,8 @@ fn light_lapse(row: Row, given: u64, a: u64, calls: u64) -> u64
     requires { Looked (row_of row) given a × (row.cost < row.period) × (calls ≡ ceil (suc a) row.period) }
     ensures { result ≡ lapse_tick row.cost row.period given a }
 {
-    let last = greater(calls, above(a, given) / (row.period - row.cost) + 1);
-    a + above(row.cost * last, given)
+    let last = calls.max(a.saturating_sub(given) / (row.period - row.cost) + 1);
+    a + (row.cost * last).saturating_sub(given)
 }
 
 // And of one whose cost is not: work that lasts to the next arrival lasts for ever.
@@ -95,7 +67,7 @@ fn heavy_lapse(row: Row, given: u64, a: u64, far: u64, calls: u64) -> u64
 {
     let work = row.cost * calls;
     if a + work < calls * row.period + given {
-        a + above(work, given)
+        a + work.saturating_sub(given)
     } else {
         far
     }

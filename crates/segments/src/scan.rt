@@ -19,12 +19,9 @@ pub fn waits(handlers: &[u32], given: &[u64; PLACES], a: u64, far: u64) -> u64
 {
     let count = table::count(Kind::Handler, handlers);
     let mut first = far;
-    let mut j = 0;
-    while j < count {
-        let row = look::row_of(Kind::Handler, handlers, j);
-        let at = TASKS_MOST + j;
-        first = look::lesser(first, look::wait(row, given[at], a));
-        j += 1;
+    for j in 0..count {
+        let row = table::row_at(Kind::Handler, handlers, j);
+        first = first.min(look::wait(row, given[TASKS_MOST + j], a));
     }
     first
 }
@@ -48,11 +45,9 @@ pub fn lates(tasks: &[u32], given: &[u64; PLACES], runner: usize, a: u64, far: u
 {
     let count = table::count(Kind::Task, tasks);
     let mut first = far;
-    let mut j = 0;
-    while j < count {
-        let row = look::row_of(Kind::Task, tasks, j);
-        first = look::lesser(first, late(row, given[j], a, far, runner == j));
-        j += 1;
+    for j in 0..count {
+        let row = table::row_at(Kind::Task, tasks, j);
+        first = first.min(late(row, given[j], a, far, runner == j));
     }
     first
 }

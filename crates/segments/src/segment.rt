@@ -22,14 +22,11 @@ pub fn at(s: &[u64], i: usize) -> Segment
     requires { i + segment_width ≤ length s.now }
     ensures { segments_of (drop i s.now) ≡ seg_of result ∷ segments_of (drop (i + segment_width) s.now) }
 {
-    let row = i + 1;
-    let from = i + 2;
-    let to = i + 3;
     Segment {
         kind: s[i],
-        row: s[row],
-        from: s[from],
-        to: s[to],
+        row: s[i + 1],
+        from: s[i + 2],
+        to: s[i + 3],
     }
 }
 
@@ -70,14 +67,12 @@ pub fn disordered(n: usize, m: usize, span: u64, s: &[u64]) -> bool
     ensures { result ≡ disordered n m span 0 (segments_of s.now) }
 {
     let mut a: u64 = 0;
-    let mut i = 0;
-    while i + WIDTH <= s.len() {
-        let next = at(s, i);
+    for k in 0..s.len() / WIDTH {
+        let next = at(s, WIDTH * k);
         if misplaced(n, m, span, a, next) {
             return true;
         }
         a = next.to;
-        i += WIDTH;
     }
     false
 }

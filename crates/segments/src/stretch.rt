@@ -2,10 +2,11 @@
 ghost use Rattle.std.specs.Prelude.{◌≡◌, ◌≤◌};
 ghost use Rattle.demand.specs.Limits.{ticks_most};
 ghost use Rattle.demand.specs.Rows.{tasks_of, handlers_of};
-ghost use Rattle.segments.specs.Inside.{ticks_of, who_at, given_at, handler_given, piece_broken, segment_broken, Ready};
+ghost use Rattle.segments.specs.Inside.{ticks_of, who_at, given_at, handler_given, tick_told, piece_broken, segment_broken, Ready};
 
 use crate::scan::PLACES;
 use crate::{look, scan};
+use demand::table;
 use demand::table::{Kind, TASKS_MOST};
 
 // The first tick from a on that is not right; far where all are.
@@ -22,18 +23,18 @@ fn ticks(
         (handler_given given.now) a (who_at runner) }
 {
     if runner < TASKS_MOST {
-        let row = look::row_of(Kind::Task, tasks, runner);
+        let row = table::row_at(Kind::Task, tasks, runner);
         let lapse = look::lapse(row, given[runner], a, far);
-        return look::lesser(scan::waits(handlers, given, a, far), lapse);
+        return scan::waits(handlers, given, a, far).min(lapse);
     }
     if runner < PLACES {
-        let row = look::row_of(Kind::Handler, handlers, runner - TASKS_MOST);
+        let row = table::row_at(Kind::Handler, handlers, runner - TASKS_MOST);
         return look::lapse(row, given[runner], a, far);
     }
     scan::waits(handlers, given, a, far)
 }
 
-// One more than the first tick at which the piece breaks a rule, 0 where it breaks none.
+// The first tick at which the piece breaks a rule.
 pub fn broken(
     tasks: &[u32],
     handlers: &[u32],
@@ -41,16 +42,16 @@ pub fn broken(
     runner: usize,
     a: u64,
     b: u64,
-) -> u64
+) -> Option<u64>
     requires { Ready tasks.now handlers.now given.now runner a × (b ≤ ticks_most) }
-    ensures { result ≡ piece_broken (tasks_of tasks.now) (handlers_of handlers.now) given.now runner a b }
+    ensures { result ≡ tick_told (piece_broken (tasks_of tasks.now) (handlers_of handlers.now) given.now runner a b) }
 {
     let x = ticks(tasks, handlers, given, runner, a, b + 1);
     let y = scan::lates(tasks, given, runner, a, b + 1);
     if (x < b) | (y <= b) {
-        look::lesser(x, y) + 1
+        Some(x.min(y))
     } else {
-        0
+        None
     }
 }
 
@@ -63,14 +64,13 @@ pub fn over(
     place: usize,
     from: u64,
     to: u64,
-) -> u64
+) -> Option<u64>
     requires { Ready tasks.now handlers.now given.now place a × (from ≤ ticks_most) × (to ≤ ticks_most) }
-    ensures { result ≡ segment_broken (tasks_of tasks.now) (handlers_of handlers.now) given.now
-        place a from to }
+    ensures { result ≡ tick_told (segment_broken (tasks_of tasks.now) (handlers_of handlers.now) given.now
+        place a from to) }
 {
-    let gap = broken(tasks, handlers, given, PLACES, a, from);
-    if 0 < gap {
-        return gap;
+    match broken(tasks, handlers, given, PLACES, a, from) {
+        Some(tick) => Some(tick),
+        None => broken(tasks, handlers, given, place, from, to),
     }
-    broken(tasks, handlers, given, place, from, to)
 }

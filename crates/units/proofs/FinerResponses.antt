@@ -9,6 +9,7 @@ use borrow.Author.Tests.{lt-ltb, le-ltb, eq-eqb, ne_eqb}
 use lib.Dec.{ltb, eqb}
 use lib.ListN.{length}
 use Prim.Native.Nat.{ℕ, zero, suc, ◌+◌, ◌*◌, ◌≤◌, ◌<◌}
+use Rattle.std.specs.Prelude.{Result}
 use Rattle.demand.specs.Demands.{ceil, called_by}
 use Rattle.demand.specs.Limits.{tasks_most}
 use Rattle.demand.specs.Refusals.{FairRow, InRange, table_refusal}
@@ -18,12 +19,12 @@ use Rattle.demand.proofs.Divide.{le-or-lt, le-ceil-mul}
 use Rattle.demand.proofs.Inside.Places.{each_at}
 use Rattle.demand.proofs.Inside.Sizes.{fair-positive}
 use Rattle.demand.proofs.Refusals.{refusal-in-range}
+use Rattle.demand.specs.declared.refusal.Refusal.{Refusal}
 use Rattle.priority.specs.Answers.{figures, figures_by, ResponsesSay}
 use Rattle.priority.specs.Asked.{above, asked_from, asked}
 use Rattle.priority.specs.Inside.Climb.{Below}
 use Rattle.priority.specs.Inside.Ranks.{rank_at}
 use Rattle.priority.specs.Responses.{least_to, response, listed_from, leasts}
-use Rattle.priority.specs.declared.Profile.{Profile}
 use Rattle.priority.proofs.Inside.Climb.{claimed-mono}
 use Rattle.priority.proofs.Inside.Ranks.{asked-claimed}
 use Rattle.priority.proofs.Inside.Search.{response-past}
@@ -199,7 +200,7 @@ module _ (k : ℕ) (pos : 0 < k) (ts hs : List Row) (fair : InRange ts hs) where
 -- ---- the answer
 
 -- The figures of a table that is not refused.
-found-figures : (t h : List ℕ) (p : Profile) → table_refusal t h ≡ 0 → ResponsesSay t h p
+found-figures : (t h : List ℕ) (p : Result (List ℕ) Refusal) → table_refusal t h ≡ 0 → ResponsesSay t h p
     → figures p ≡ record { code = 0; least = leasts (tasks_of t) (handlers_of h) }
 unfolding figures_by
 found-figures t h p none says = rw none at says.figured

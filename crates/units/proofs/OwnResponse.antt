@@ -10,6 +10,7 @@ use borrow.Author.Tests.{lt-ltb, le-ltb, eq-eqb, ne_eqb}
 use lib.Dec.{ltb, eqb}
 use lib.ListN.{length, get_or, replicate, length-replicate, get_or-replicate, get_or-eq_default}
 use Prim.Native.Nat.{ℕ, zero, suc, ◌+◌, ◌≤◌, ◌<◌}
+use Rattle.std.specs.Prelude.{Result}
 use Rattle.demand.specs.Demands.{called_by}
 use Rattle.demand.specs.Limits.{tasks_most}
 use Rattle.demand.specs.Refusals.{InRange, table_refusal}
@@ -17,10 +18,10 @@ use Rattle.demand.specs.Rows.{Row, row_at, total, tasks_of, handlers_of}
 use Rattle.demand.specs.Tests.{pick}
 use Rattle.demand.proofs.Divide.{le-or-lt}
 use Rattle.demand.proofs.Refusals.{refusal-in-range}
+use Rattle.demand.specs.declared.refusal.Refusal.{Refusal}
 use Rattle.priority.specs.Answers.{Figures, figures, figures_by, no_lengths, ResponsesSay}
 use Rattle.priority.specs.Asked.{above, asked_from, asked}
 use Rattle.priority.specs.Responses.{least_to, response, leasts}
-use Rattle.priority.specs.declared.Profile.{Profile}
 use Rattle.priority.proofs.Inside.Search.{listed_at}
 use Rattle.units.specs.Orders.{Shuffled, Exchanged, went_to}
 use Rattle.units.specs.Orders.Shuffled.{nothing, same, swapped, then}
@@ -194,8 +195,8 @@ module _ {ts hs us is : List Row} (e : Exchanged ts us) (s : Shuffled hs is) whe
 -- ---- the answer
 
 -- The length of a task in the answer to a table: its response where the table is not refused, else 0.
-module _ (t h : List ℕ) (p : Profile) (says : ResponsesSay t h p) where
-  least-found : table_refusal t h ≡ 0 → (i : ℕ) → i < length (tasks_of t) → get_or p.least i 0 ≡ response (tasks_of t) (handlers_of h) i
+module _ (t h : List ℕ) (p : Result (List ℕ) Refusal) (says : ResponsesSay t h p) where
+  least-found : table_refusal t h ≡ 0 → (i : ℕ) → i < length (tasks_of t) → get_or (figures p).least i 0 ≡ response (tasks_of t) (handlers_of h) i
   unfolding figures figures_by leasts
   least-found none i row =
       let fair : InRange (tasks_of t) (handlers_of h) = refusal-in-range t h none in
@@ -203,10 +204,10 @@ module _ (t h : List ℕ) (p : Profile) (says : ResponsesSay t h p) where
       ap (λ (f : Figures). get_or f.least i 0) is
       ∙ listed_at (response (tasks_of t) (handlers_of h)) tasks_most i (omega (arith, fair.tasks-most))
 
-  least-refused : 0 < table_refusal t h → (i : ℕ) → get_or p.least i 0 ≡ 0
+  least-refused : 0 < table_refusal t h → (i : ℕ) → get_or (figures p).least i 0 ≡ 0
   unfolding figures figures_by no_lengths
   least-refused some i =
-      let is : p.least ≡ pick (eqb (table_refusal t h) 0) (leasts (tasks_of t) (handlers_of h)) no_lengths =
+      let is : (figures p).least ≡ pick (eqb (table_refusal t h) 0) (leasts (tasks_of t) (handlers_of h)) no_lengths =
       ap (λ (f : Figures). f.least) says.figured in
       let refused : eqb (table_refusal t h) 0 ≡ false = ne_eqb (table_refusal t h) 0 (λ e. omega arith) in
       ap (λ (ls : List ℕ). get_or ls i 0) (is ∙ ap (λ (b : Bool). pick b (leasts (tasks_of t) (handlers_of h)) no_lengths) refused)
@@ -227,7 +228,7 @@ own-response t h t' h' p q e lt s lh says says' i row = go (eq-zero-or-pos (tabl
     same_number : table_refusal t h ≡ table_refusal t' h'
     same_number = table-shuffled t h t' h' (exchanged-shuffled e) lt s lh
 
-    go : (table_refusal t h ≡ 0) ⊎ (0 < table_refusal t h) → get_or p.least i 0 ≡ get_or q.least (went_to e i) 0
+    go : (table_refusal t h ≡ 0) ⊎ (0 < table_refusal t h) → get_or (figures p).least i 0 ≡ get_or (figures q).least (went_to e i) 0
     go (inl none) =
         least-found t h p says none i row
         ∙ response-own e s i

@@ -1,36 +1,14 @@
 -- What a look at one row works out, in the code's own form, and that its numbers fit a word.
-use mathlib.Core.List.{List, ◌∷◌}
 use mathlib.Core.Path.{◌≡◌, refl, sym, ap, ◌∙◌}
-use native.Mathlib.Nat.{add-zero, mul-le-mul, div-le_self}
+use native.Mathlib.Nat.{mul-le-mul, div-le_self}
 use native.Mathlib.Numerals.{add-one}
 use native.Mathlib.Omega.{arith}
-use lib.ListN.{length, get_or, take, drop}
-use lib.Seq.{get_or-drop}
 use Prim.Native.Nat.{ℕ, zero, suc, ◌+◌, ◌-◌, ◌*◌, ◌/◌, ◌≤◌, ◌<◌, max}
+use Rattle.std.specs.Int.{div_ceil}
 use Rattle.demand.specs.Demands.{ceil}
-use Rattle.demand.specs.Rows.{Row, rows_of, width, row_at, no_row, Sound}
-use Rattle.demand.specs.declared.table.Kind.{Kind}
-use Rattle.demand.specs.declared.table.Kind.TheVariants.{Task, Handler}
-use Rattle.demand.proofs.Divide.{jobs, ceil-le, jobs-mul-le, jobs-above}
-use Rattle.demand.proofs.Inside.Places.{rows_drop}
-use Rattle.demand.proofs.Inside.Slices.{rows-count, from_is}
+use Rattle.demand.specs.Rows.{Row, Sound}
+use Rattle.demand.proofs.Divide.{jobs, ceil-le, jobs-mul-le, jobs-above, div_ceil-ceil}
 use Rattle.segments.specs.Inside.{cond, wait_tick, due_after, lapse_at, lapse_tick, heavy_lapse, lapse_of, run_of, Looked}
-
--- ---- the row at a place
-
--- A row of the list has all its numbers there.
-pub row_fits : (kind : Kind) (s : List ℕ) (i : ℕ) → i < length (rows_of kind s) → width kind * i + width kind ≤ length s
-row_fits Task s i h = omega (arith, rows-count Task s)
-row_fits Handler s i h = omega (arith, rows-count Handler s)
-
--- The row at the head of the list from row i on is the row at i.
-pub row_read : (kind : Kind) (s : List ℕ) (from i : ℕ) (r : Row) (rest : List Row) → from ≡ width kind * i
-    → rows_of kind (take (length s - from) (drop from s)) ≡ r ∷ rest → r ≡ row_at (rows_of kind s) i
-row_read kind s from i r rest same e =
-    let behind : rows_of kind (drop from s) ≡ r ∷ rest = ap (rows_of kind) (sym (from_is from s)) ∙ e in
-    let rows : drop i (rows_of kind s) ≡ r ∷ rest = sym (rows_drop kind s i) ∙ ap (λ (n : ℕ). rows_of kind (drop n s)) (sym same) ∙ behind in
-    ap (λ (rs : List Row). get_or rs 0 no_row) (sym rows) ∙ get_or-drop i (rows_of kind s) 0 no_row
-    ∙ ap (λ (k : ℕ). get_or (rows_of kind s) k no_row) (add-zero i)
 
 -- ---- choices
 
@@ -107,8 +85,8 @@ module _ (far a g : ℕ) (r : Row) where
 -- ---- a row that is given every tick
 
 -- Calls up to tick a, as the code counts them.
-pub calls_is : (a p : ℕ) → (a + 1 + (p - 1)) / p ≡ ceil (suc a) p
-calls_is a p = ap (λ (n : ℕ). (n + (p - 1)) / p) (add-one a)
+pub calls_is : (a p n : ℕ) → 0 < p → n ≡ div_ceil (a + 1) p → n ≡ ceil (suc a) p
+calls_is a p n some e = e ∙ div_ceil-ceil (a + 1) p some ∙ ap (λ (n : ℕ). (n + (p - 1)) / p) (add-one a)
 
 module _ (far a c p g : ℕ) (pos : 0 < p) where
   -- Of a cost below the period,

@@ -8,10 +8,11 @@ use native.Mathlib.Omega.{arith}
 use borrow.Author.Tests.{le-ltb, lt-ltb, ltb-true, ltb-false, leb-true, leb-false}
 use lib.Dec.{leb, ltb}
 use Prim.Native.Nat.{ℕ, zero, suc, ◌+◌, ◌-◌, ◌≤◌, ◌<◌, min}
+use Rattle.std.specs.Prelude.{Option, Some, None, unwrap_or}
 use Rattle.demand.specs.Limits.{tasks_most}
 use Rattle.demand.specs.Rows.{Row, row_at}
 use Rattle.segments.specs.Given.{nobody, task, handler}
-use Rattle.segments.specs.Inside.{cond, lapse_of, waits_of, lates_of, ticks_of}
+use Rattle.segments.specs.Inside.{cond, lapse_of, waits_of, lates_of, ticks_of, tick_told}
 use Rattle.segments.specs.Inside.{places_most, who_at, given_at, handler_given, broken_at, piece_broken}
 use Rattle.segments.specs.Inside.{Outcome, broken, cond_o, after}
 use Rattle.segments.proofs.Looks.Figures.{cond-none}
@@ -119,6 +120,20 @@ module _ (x y b : ℕ) where
       go zero f = two (suc b - y) f
       go (suc n) f = ap broken (omega (arith, f))
 
+-- What is told as a tick, or as none.
+pub told-some : (n z : ℕ) → Some z ≡ tick_told n → n ≡ suc z
+told-some zero z e = absurd cc
+told-some (suc n) z e = ap suc (ap (λ (o : Option ℕ). unwrap_or o n) (sym e))
+
+pub told-none : (n : ℕ) → None ≡ tick_told n → n ≡ 0
+told-none zero e = refl
+told-none (suc n) e = absurd cc
+
+-- What is told as no tick is told as none.
+pub told-else : (o : Option ℕ) (n : ℕ) → o ≡ tick_told n → ((z : ℕ) → o ≡ Some z → ⊥) → None ≡ tick_told n
+told-else None n e f = e
+told-else (Some z) n e f = absurd (f z refl)
+
 -- The outcome, from the numbers that the code has in hand.
 module _ (ts hs : List Row) (given : List ℕ) (runner a b x y : ℕ) where
   abbrev right : ℕ → ℕ
@@ -131,10 +146,10 @@ module _ (ts hs : List Row) (given : List ℕ) (runner a b x y : ℕ) where
     exact : broken_at x y b ≡ piece_broken ts hs given runner a b
     exact = ap₂ (λ (u v : ℕ). broken_at u v b) (ex ∙ ap right (add-one b)) (ey ∙ ap met (add-one b))
 
-    -- One more than the tick,
-    pub told-broken : (z : ℕ) → z ≡ min x y → (ltb x b || leb y b) ≡ true → z + 1 ≡ piece_broken ts hs given runner a b
-    told-broken z ez e = add-one z ∙ ap suc ez ∙ broken-some x y b (either x y b e) ∙ exact
+    -- The tick,
+    pub told-broken : (z : ℕ) → z ≡ min x y → (ltb x b || leb y b) ≡ true → Some z ≡ tick_told (piece_broken ts hs given runner a b)
+    told-broken z ez e = ap tick_told (ap suc ez ∙ broken-some x y b (either x y b e) ∙ exact)
 
-    -- or 0.
-    pub told-fine : (ltb x b || leb y b) ≡ false → 0 ≡ piece_broken ts hs given runner a b
-    told-fine e = let none = neither x y b e in broken-none x y b none.0 none.1 ∙ exact
+    -- or none.
+    pub told-fine : (ltb x b || leb y b) ≡ false → None ≡ tick_told (piece_broken ts hs given runner a b)
+    told-fine e = let none = neither x y b e in ap tick_told (broken-none x y b none.0 none.1 ∙ exact)

@@ -8,11 +8,12 @@ use native.Mathlib.Omega.{arith}
 use borrow.Author.Tests.{leb-false}
 use lib.ListN.{length, get_or, set, drop, length-drop, length-set}
 use Prim.Native.Nat.{ℕ, zero, suc, ◌+◌, ◌-◌, ◌%◌, ◌≤◌, ◌<◌}
+use Rattle.std.specs.Prelude.{Option, Some, None}
 use Rattle.demand.specs.Limits.{tasks_most, handlers_most, ticks_most}
 use Rattle.demand.specs.Refusals.{InRange}
 use Rattle.demand.specs.Rows.{Row, tasks_of, handlers_of}
 use Rattle.segments.specs.Given.{Who, nobody, handler, task_ticks, handler_ticks}
-use Rattle.segments.specs.Inside.{cond, Outcome, fine, broken, piece_then, judge}
+use Rattle.segments.specs.Inside.{cond, Outcome, fine, broken, piece_then, judge, tick_told}
 use Rattle.segments.specs.Inside.{places_most, who_at, place_of, piece_broken, segment_broken}
 use Rattle.segments.specs.Inside.{Ready, Counted, Walked}
 use Rattle.segments.specs.Promise.{unknown, disordered}
@@ -23,7 +24,7 @@ use Rattle.segments.proofs.Walks.Lent.{Fits, ordered-cons, ordered-in, segments-
 use Rattle.segments.proofs.Looks.Figures.{cond-none, cond-some}
 use Rattle.segments.proofs.Pieces.Order.{gap-steady, seg-steady, rest-agrees}
 use Rattle.segments.proofs.Refusals.{Answered}
-use Rattle.segments.proofs.Looks.Stretches.{who-task, who-handler, who-nobody, after-fine, after-broken}
+use Rattle.segments.proofs.Looks.Stretches.{who-task, who-handler, who-nobody, after-fine, after-broken, told-some, told-none}
 use Rattle.verdict.proofs.Readable.{readable-in-range, readable-common}
 
 -- ---- a piece, from the number that tells its outcome
@@ -83,15 +84,18 @@ ready-gap t h given p a ready = record {
 }
 
 -- The outcome of a gap and a segment, from those of the two.
-module _ (ts hs : List Row) (given : List ℕ) (p a from to g : ℕ) (e : g ≡ piece_broken ts hs given places_most a from) where
+module _ (ts hs : List Row) (given : List ℕ) (p a from to : ℕ) where
   -- The gap is broken,
-  pub over-gap : 0 < g → g ≡ segment_broken ts hs given p a from to
-  over-gap some = e ∙ sym (cond-some (piece_broken ts hs given places_most a from) (piece_broken ts hs given p from to) _ (omega (arith, e)))
+  pub over-gap : (z : ℕ) → Some z ≡ tick_told (piece_broken ts hs given places_most a from) → Some z ≡ tick_told (segment_broken ts hs given p a from to)
+  over-gap z e =
+      let gap : piece_broken ts hs given places_most a from ≡ suc z = told-some _ z e in
+      e ∙ sym (ap tick_told (cond-some (piece_broken ts hs given places_most a from) (piece_broken ts hs given p from to) _ (omega (arith, gap))))
 
   -- or the segment tells.
-  pub over-segment : (r : ℕ) → g ≤ 0 → r ≡ piece_broken ts hs given p from to → r ≡ segment_broken ts hs given p a from to
+  pub over-segment : (r : Option ℕ) → None ≡ tick_told (piece_broken ts hs given places_most a from) → r ≡ tick_told (piece_broken ts hs given p from to)
+      → r ≡ tick_told (segment_broken ts hs given p a from to)
   over-segment r none er =
-      er ∙ sym (cond-none (piece_broken ts hs given places_most a from) (piece_broken ts hs given p from to) _ (omega (arith, e)))
+      er ∙ sym (ap tick_told (cond-none (piece_broken ts hs given places_most a from) (piece_broken ts hs given p from to) _ (told-none _ none)))
 
 -- Counts that nothing was added to.
 unfoldable pub zeros : ℕ → List ℕ

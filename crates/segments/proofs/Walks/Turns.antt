@@ -1,16 +1,17 @@
 -- What a turn of the walk needs and leaves, of the segment that the code holds.
 use mathlib.Core.List.{List, ◌∷◌}
-use mathlib.Core.Path.{◌≡◌, refl, sym, ap, ◌∙◌}
+use mathlib.Core.Path.{◌≡◌, refl, sym, ap, subst, ◌∙◌}
 use native.Mathlib.Omega.{arith}
 use lib.ListN.{length, get_or, set, drop}
-use Prim.Native.Nat.{ℕ, suc, ◌+◌, ◌-◌, ◌≤◌, ◌<◌}
+use Prim.Native.Nat.{ℕ, ◌+◌, ◌-◌, ◌≤◌, ◌<◌}
+use Rattle.std.specs.Prelude.{Option, Ok, None, Some}
 use Rattle.demand.specs.Limits.{tasks_most, ticks_most}
 use Rattle.demand.specs.Refusals.{InRange}
 use Rattle.demand.specs.Rows.{tasks_of, handlers_of}
-use Rattle.segments.specs.Inside.{places_most, who_at, place_of, seg_of, piece_broken, segment_broken, Ready, Walked}
+use Rattle.segments.proofs.Looks.Stretches.{told-some, told-none}
+use Rattle.segments.specs.Inside.{places_most, who_at, place_of, seg_of, piece_broken, segment_broken, Ready, Walked, tick_told}
 use Rattle.segments.specs.Promise.{judge_refusal, JudgeSays}
 use Rattle.segments.specs.Segments.{who_of, segment_width, segments_of}
-use Rattle.segments.specs.declared.Answer.TheVariants as answer
 use Rattle.segments.specs.declared.segment.Segment.{Segment}
 use Rattle.segments.proofs.Answers.{says-accepted, says-broken}
 use Rattle.segments.proofs.Walks.Lent.{Fits}
@@ -18,10 +19,6 @@ use Rattle.segments.proofs.Refusals.{Answered, answered}
 use Rattle.segments.proofs.Walks.Steps.{span-most, walked_start, end-fine, end-broken, fits}
 use Rattle.segments.proofs.Walks.Steps.{turn-broken, walked-turn, place-who, known-task, known-handler, zeros}
 use Rattle.verdict.proofs.Readable.{readable-in-range}
-
--- A number told that is not 0 is one more than a tick.
-tick-of : (r : ℕ) → 0 < r → r ≡ suc (r - 1)
-tick-of r some = omega arith
 
 module _ (t h s : List ℕ) (L : ℕ) (none : judge_refusal t h s L ≡ 0) where
   ok : Answered t h s L
@@ -49,14 +46,10 @@ module _ (t h s : List ℕ) (L : ℕ) (none : judge_refusal t h s L ≡ 0) where
           most,
         )
 
-    module _ (l : length s ≤ i) (r : ℕ) (e : r ≡ piece_broken (tasks_of t) (handlers_of h) given places_most a L) where
-      -- Broken there,
-      pub end-says-broken : 0 < r → JudgeSays t h s L (answer.Broken (r - 1))
-      end-says-broken some = says-broken t h s L none (r - 1) (end-broken t h s L ok given a i so l (r - 1) (sym e ∙ tick-of r some))
-
-      -- or accepted.
-      pub end-says-accepted : r ≤ 0 → JudgeSays t h s L answer.Accepted
-      end-says-accepted fine = says-accepted t h s L none (end-fine t h s L ok given a i so l (sym e ∙ (omega (arith, fine))))
+    -- What is told of it is the answer: broken there, or accepted.
+    pub end-says : length s ≤ i → (r : Option ℕ) → r ≡ tick_told (piece_broken (tasks_of t) (handlers_of h) given places_most a L) → JudgeSays t h s L (Ok r)
+    end-says l (Some z) e = says-broken t h s L none z (end-broken t h s L ok given a i so l z (told-some _ z e))
+    end-says l None e = says-accepted t h s L none (end-fine t h s L ok given a i so l (told-none _ e))
 
     -- A segment further.
     module _ (next : Segment) (e : segments_of (drop i s) ≡ seg_of next ∷ segments_of (drop (i + segment_width) s)) where
@@ -102,13 +95,12 @@ module _ (t h s : List ℕ) (L : ℕ) (none : judge_refusal t h s L ≡ 0) where
             let most : L ≤ ticks_most = span-most t h s L ok in
             (omega (arith, rest-is.some), omega (arith, so.counted.most p, rest-is.later, rest-is.some, rest-is.within))
 
-        module _ (r : ℕ) (er : r ≡ segment_broken (tasks_of t) (handlers_of h) given p a next.from next.to) where
-          pub turn-says-broken : 0 < r → JudgeSays t h s L (answer.Broken (r - 1))
-          turn-says-broken some =
-              says-broken t h s L none (r - 1)
-              (turn-broken t h s L ok given a i so (seg_of next) _ e p who-is (r - 1) (sym er ∙ tick-of r some))
+        pub turn-says-broken : (z : ℕ) → Some z ≡ tick_told (segment_broken (tasks_of t) (handlers_of h) given p a next.from next.to) → JudgeSays t h s L (Ok (Some z))
+        turn-says-broken z e' =
+            says-broken t h s L none z (turn-broken t h s L ok given a i so (seg_of next) _ e p who-is z (told-some _ z e'))
 
-          pub turn-goes : i + segment_width ≤ length s → r ≤ 0
-              → Walked t h s L (set given p (get_or given p 0 + (next.to - next.from))) next.to (i + segment_width)
-          turn-goes within fine =
-              walked-turn t h s L ok given a i so (seg_of next) _ e p who-is refl within place_in (sym er ∙ (omega (arith, fine)))
+        pub turn-goes : (j : ℕ) → j ≡ i + segment_width → j ≤ length s → None ≡ tick_told (segment_broken (tasks_of t) (handlers_of h) given p a next.from next.to)
+            → Walked t h s L (set given p (get_or given p 0 + (next.to - next.from))) next.to j
+        turn-goes j ej within fine =
+            subst (Walked t h s L (set given p (get_or given p 0 + (next.to - next.from))) next.to) (sym ej)
+            (walked-turn t h s L ok given a i so (seg_of next) _ e p who-is refl (omega (arith, ej)) place_in (told-none _ fine))

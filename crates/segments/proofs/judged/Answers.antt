@@ -1,38 +1,34 @@
 use native.Mathlib.Omega.{arith}
+use Prim.Native.Nat.{◌+◌, ◌*◌}
+use Rattle.segments.proofs.Looks.Stretches.{told-else}
 use Rattle.segments.proofs.Refusals.{answered}
-use Rattle.segments.proofs.Walks.Turns.{start, end-ready, end-says-broken, end-says-accepted, row-few}
+use Rattle.segments.proofs.Walks.Turns.{start, end-ready, end-says, row-few}
 use Rattle.segments.proofs.Walks.Turns.{place_in, turn-ready, turn-grows, turn-says-broken, turn-goes}
 use Rattle.segments.proofs.Walks.Steps.{segment-left, zeros}
 use Rattle.segments.proofs.judged.Goals as goal
 
-pub loop-i-init : goal.loop-i-init
+pub loop-k-init : goal.loop-k-init
 unfolding zeros
-loop-i-init c = start _ _ _ _ c.requires
+loop-k-init c = start _ _ _ _ c.requires
 
 pub at-next-requires : goal.at-next-requires
 at-next-requires c =
-    segment-left _ _ _ _ (answered _ _ _ _ c.requires) _ _ _ c.loop-i.invariant (omega arith)
+    segment-left _ _ _ _ (answered _ _ _ _ c.requires) _ _ _ c.loop-k.invariant (omega arith)
 
 pub place-place-requires : goal.place-place-requires
 place-place-requires c =
-    row-few _ _ _ _ c.requires _ _ _ c.loop-i.invariant c.at-next.result c.at-next.ensures
+    row-few _ _ _ _ c.requires _ _ _ c.loop-k.invariant c.at-next.result c.at-next.ensures
 
-pub over-told-requires : goal.over-told-requires
-over-told-requires c =
-    turn-ready _ _ _ _ c.requires _ _ _ c.loop-i.invariant c.at-next.result
+pub over-requires : goal.over-requires
+over-requires c =
+    turn-ready _ _ _ _ c.requires _ _ _ c.loop-k.invariant c.at-next.result
     c.at-next.ensures _ c.place-place.ensures
-
-pub returns-then-told-gt0 : goal.returns-then-told-gt0
-returns-then-told-gt0 c =
-    turn-says-broken _ _ _ _ c.requires _ _ _ c.loop-i.invariant
-    c.at-next.result c.at-next.ensures _
-    c.place-place.ensures _ c.over-told.ensures c.if-told-gt0.true
 
 pub offset_bounds-given-place : goal.offset_bounds-given-place
 offset_bounds-given-place c =
     omega (
       arith,
-      place_in _ _ _ _ c.requires _ _ _ c.loop-i.invariant
+      place_in _ _ _ _ c.requires _ _ _ c.loop-k.invariant
           c.at-next.result
           c.at-next.ensures _ c.place-place.ensures,
     )
@@ -41,66 +37,41 @@ pub bounds-given-place : goal.bounds-given-place
 bounds-given-place c =
     omega (
       arith,
-      place_in _ _ _ _ c.requires _ _ _ c.loop-i.invariant
+      place_in _ _ _ _ c.requires _ _ _ c.loop-k.invariant
           c.at-next.result
           c.at-next.ensures _ c.place-place.ensures,
     )
 
 pub overflow_sub-given : goal.overflow_sub-given
 overflow_sub-given c =
-    let grows = turn-grows _ _ _ _ c.requires _ _ _ c.loop-i.invariant
+    let grows = turn-grows _ _ _ _ c.requires _ _ _ c.loop-k.invariant
     c.at-next.result c.at-next.ensures _
     c.place-place.ensures in
     grows.0
 
 pub overflow_add-given : goal.overflow_add-given
 overflow_add-given c =
-    let grows = turn-grows _ _ _ _ c.requires _ _ _ c.loop-i.invariant
+    let grows = turn-grows _ _ _ _ c.requires _ _ _ c.loop-k.invariant
     c.at-next.result c.at-next.ensures _
     c.place-place.ensures in
     omega (arith, grows.1)
 
-pub offset_bounds-given-place-in-loop-i : goal.offset_bounds-given-place-in-loop-i
-offset_bounds-given-place-in-loop-i c =
-    omega (
-      arith,
-      place_in _ _ _ _ c.requires _ _ _ c.loop-i.invariant
-          c.at-next.result c.at-next.ensures _
-          c.place-place.ensures,
-    )
+pub returns-in-Some : goal.returns-in-Some
+returns-in-Some c =
+    turn-says-broken _ _ _ _ c.requires _ _ _ c.loop-k.invariant c.at-next.result c.at-next.ensures _ c.place-place.ensures _ c.in-Some.ensures
 
-pub bounds-given-place-in-loop-i : goal.bounds-given-place-in-loop-i
-bounds-given-place-in-loop-i c =
-    omega (
-      arith,
-      place_in _ _ _ _ c.requires _ _ _ c.loop-i.invariant
-          c.at-next.result c.at-next.ensures _
-          c.place-place.ensures,
-    )
+pub bounds-given-place-in-loop-k : goal.bounds-given-place-in-loop-k
+bounds-given-place-in-loop-k c =
+    omega (arith, place_in _ _ _ _ c.requires _ _ _ c.loop-k.invariant c.at-next.result c.at-next.ensures _ c.place-place.ensures)
 
-pub overflow_add-i : goal.overflow_add-i
-overflow_add-i c =
-    let here = c.loop-i in
-    omega (arith, segment-left _ _ _ _ (answered _ _ _ _ c.requires) _ _ _ here.invariant (omega arith))
+pub loop-k-preserved : goal.loop-k-preserved
+loop-k-preserved c =
+    let here = c.loop-k in
+    turn-goes _ _ _ _ c.requires _ _ _ here.invariant c.at-next.result c.at-next.ensures _ c.place-place.ensures (4 * (here.k + 1)) (omega arith) (omega arith)
+    (told-else _ _ c.over.ensures c.in_default.not-Some)
 
-pub loop-i-preserved : goal.loop-i-preserved
-loop-i-preserved c =
-    let here = c.loop-i in
-    turn-goes _ _ _ _ c.requires _ _ _ here.invariant c.at-next.result
-    c.at-next.ensures _ c.place-place.ensures _
-    c.over-told.ensures
-    (segment-left _ _ _ _ (answered _ _ _ _ c.requires) _ _ _ here.invariant (omega arith)) c.if-told-gt0.false
-
-pub broken-told-requires : goal.broken-told-requires
-broken-told-requires c =
-    end-ready _ _ _ _ c.requires _ _ _ c.loop-i.invariant
-
-pub returns-then-told-gt0-2 : goal.returns-then-told-gt0-2
-returns-then-told-gt0-2 c =
-    end-says-broken _ _ _ _ c.requires _ _ _ c.loop-i.invariant (omega arith) _ c.broken-told.ensures
-    c.if-told-gt0-2.true
+pub broken-requires : goal.broken-requires
+broken-requires c = end-ready _ _ _ _ c.requires _ _ _ c.loop-k.invariant
 
 pub returns : goal.returns
-returns c =
-    end-says-accepted _ _ _ _ c.requires _ _ _ c.loop-i.invariant (omega arith) _ c.broken-told.ensures
-    c.if-told-gt0-2.false
+returns c = end-says _ _ _ _ c.requires _ _ _ c.loop-k.invariant (omega arith) _ c.broken.ensures

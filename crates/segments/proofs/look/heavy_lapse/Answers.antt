@@ -35,14 +35,14 @@ overflow_add-result c =
     let r = row_of c.args.row in
     omega (
       arith,
-      c.above.ensures,
+      c.saturating_sub.ensures,
       c.requires.0.start,
       work-most r _ _ c.requires.0 c.args.calls (omega (arith, c.requires.2, calls-most r _ _ c.requires.0)),
     )
 
 pub returns-then-a-work : goal.returns-then-a-work
 returns-then-a-work c =
-    ap (λ (n : ℕ). c.args.a + n) c.above.ensures
+    ap (λ (n : ℕ). c.args.a + n) c.saturating_sub.ensures
     ∙ heavy-short _ _ _ _ _ c.requires.0.fair.period.least c.args.calls c.requires.2 c.if-a-work.true
 
 pub returns-else-a-work : goal.returns-else-a-work

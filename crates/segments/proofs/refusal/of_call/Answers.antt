@@ -1,22 +1,16 @@
-use native.Mathlib.Nat.{pos_of_ne-zero}
-use native.Mathlib.Omega.{arith}
+use mathlib.Core.Path.{sym}
+use Rattle.std.proofs.lemmas.Result.{err_from_is_err_and}
 use Rattle.segments.proofs.Refusals.{refused-own, refused-limit}
 use Rattle.verdict.proofs.Sayings.{says-readable}
 use Rattle.segments.proofs.refusal.of_call.Goals as goal
 
-pub returns-then-number-gt0 : goal.returns-then-number-gt0
-returns-then-number-gt0 c = refused-own _ _ _ _ _ c.of_table-number.ensures c.if-number-gt0.true
-
-pub returns-then-h-eq0 : goal.returns-then-h-eq0
-returns-then-h-eq0 c =
-    let x = c.args in
-    refused-limit x.tasks.now x.handlers.now _ _
-    (omega (arith, c.of_table-number.ensures, c.if-number-gt0.false)) _
-    c.of_table-h.ensures c.if-h-eq0.true
+pub returns-in_err-of_table : goal.returns-in_err-of_table
+returns-in_err-of_table c =
+    let p = err_from_is_err_and c.from_residual.result c.from_residual.ensures.1 in
+    rw (p.1, p.2) (refused-own _ _ _ _ _ c.in_err-of_table.ensures)
 
 pub of_schedule-requires : goal.of_schedule-requires
-of_schedule-requires c =
-    let x = c.args in
-    says-readable x.tasks.now x.handlers.now
-    (omega (arith, c.of_table-number.ensures, c.if-number-gt0.false)) _
-    c.of_table-h.ensures (pos_of_ne-zero c.if-h-eq0.false)
+of_schedule-requires c = says-readable c.args.tasks.now c.args.handlers.now (sym c.in_ok-of_table.ensures) _ c.in-Some.ensures
+
+pub returns-in-None : goal.returns-in-None
+returns-in-None c = refused-limit c.args.tasks.now c.args.handlers.now _ _ (sym c.in_ok-of_table.ensures) c.in-None.ensures

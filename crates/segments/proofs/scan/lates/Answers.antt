@@ -11,8 +11,8 @@ loop-j-init c =
     let x = c.args in
     lates-start x.far x.a (given_at x.given.now) x.runner (tasks_of x.tasks.now)
 
-pub row_of-row-requires : goal.row_of-row-requires
-row_of-row-requires c =
+pub row_at-row-requires : goal.row_at-row-requires
+row_at-row-requires c =
     (omega (arith, c.requires.few, c.count-count.ensures), omega (arith, c.count-count.ensures))
 
 pub offset_bounds-given-j : goal.offset_bounds-given-j
@@ -29,11 +29,11 @@ late-requires c =
     let count = c.count-count.ensures in
     let ts = tasks_of c.args.tasks.now in (
       record {
-        fair = fair-at ts c.requires.fair _ j c.row_of-row.ensures (omega (arith, count));
+        fair = fair-at ts c.requires.fair _ j c.row_at-row.ensures (omega (arith, count));
         given = c.requires.counts j;
         start = c.requires.start;
       },
-      sound-at ts c.requires.valid _ j c.row_of-row.ensures (omega (arith, count)),
+      sound-at ts c.requires.valid _ j c.row_at-row.ensures (omega (arith, count)),
     )
 
 pub loop-j-preserved : goal.loop-j-preserved
@@ -42,8 +42,8 @@ loop-j-preserved c =
     let count = c.count-count.ensures in
     let x = c.args in
     let ts = tasks_of x.tasks.now in
-    let row = c.row_of-row.ensures in
-    let told = c.lesser-first.ensures ∙ ap (min here.first) c.late.ensures in
+    let row = c.row_at-row.ensures in
+    let told = c.min-first.ensures ∙ ap (min here.first) c.late.ensures in
     lates-turn x.far x.a (given_at x.given.now) x.runner ts here.j here.first _ _ (omega (arith, count))
     (omega (arith, count, c.requires.few)) here.invariant row (cost-at ts c.requires.fair here.j (omega (arith, count))) told
 

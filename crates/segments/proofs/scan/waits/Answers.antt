@@ -12,28 +12,16 @@ loop-j-init c =
     let x = c.args in
     waits_start x.far x.a (handler_given x.given.now) (handlers_of x.handlers.now)
 
-pub row_of-row-requires : goal.row_of-row-requires
-row_of-row-requires c =
+pub row_at-row-requires : goal.row_at-row-requires
+row_at-row-requires c =
     (omega (arith, c.requires.few, c.count-count.ensures), omega (arith, c.count-count.ensures))
-
-pub overflow_add-at : goal.overflow_add-at
-overflow_add-at c =
-    omega (arith, c.requires.few, c.count-count.ensures)
-
-pub offset_bounds-given-at : goal.offset_bounds-given-at
-offset_bounds-given-at c =
-    omega (arith, c.requires.few, c.count-count.ensures)
-
-pub bounds-given-at : goal.bounds-given-at
-bounds-given-at c =
-    omega (arith, c.requires.few, c.count-count.ensures)
 
 pub wait-requires : goal.wait-requires
 wait-requires c =
     let j = c.loop-j.j in
     record {
       fair =
-          fair-at (handlers_of c.args.handlers.now) c.requires.fair _ j c.row_of-row.ensures
+          fair-at (handlers_of c.args.handlers.now) c.requires.fair _ j c.row_at-row.ensures
           (omega (arith, c.count-count.ensures));
       given = c.requires.counts (tasks_most + j);
       start = c.requires.start;
@@ -45,8 +33,8 @@ loop-j-preserved c =
     let count = c.count-count.ensures in
     let x = c.args in
     let hs = handlers_of x.handlers.now in
-    let row = c.row_of-row.ensures in
-    let told = c.lesser-first.ensures ∙ ap (min here.first) c.wait.ensures in
+    let row = c.row_at-row.ensures in
+    let told = c.min-first.ensures ∙ ap (min here.first) c.wait.ensures in
     waits-turn x.far x.a (handler_given x.given.now) hs here.j here.first _ _ (omega (arith, count))
     here.invariant row (cost-at hs c.requires.fair here.j (omega (arith, count))) told
 

@@ -1,4 +1,3 @@
-use Prim.Native.Nat.{◌-◌}
 use Rattle.demand.specs.Rows.{handlers_of}
 use Rattle.segments.specs.Inside.{handler_given}
 use Rattle.segments.proofs.Looks.Scans.{WaitsSoFar}
@@ -6,6 +5,3 @@ use Rattle.segments.proofs.scan.waits.Given as goal
 
 abbrev pub invariant-loop-j : goal.invariant-loop-j
 invariant-loop-j l = WaitsSoFar l.far l.a (handler_given l.given) (handlers_of l.handlers) l.j l.first
-
-abbrev pub decreases-loop-j : goal.decreases-loop-j
-decreases-loop-j l = l.count - l.j

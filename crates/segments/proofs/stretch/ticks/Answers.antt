@@ -6,8 +6,8 @@ use Rattle.segments.proofs.Looks.Scans.{fair-at}
 use Rattle.segments.proofs.Looks.Stretches.{ticks-task, ticks-handler, ticks-nobody}
 use Rattle.segments.proofs.stretch.ticks.Goals as goal
 
-pub row_of-row-requires : goal.row_of-row-requires
-row_of-row-requires c =
+pub row_at-row-requires : goal.row_at-row-requires
+row_at-row-requires c =
     (c.if-runner-lt-TASKS_MOST.true, c.requires.task c.if-runner-lt-TASKS_MOST.true)
 
 pub lapse-lapse-requires : goal.lapse-lapse-requires
@@ -15,7 +15,7 @@ lapse-lapse-requires c =
     let x = c.args in
     record {
       fair =
-          fair-at (tasks_of x.tasks.now) c.requires.range.tasks _ x.runner c.row_of-row.ensures
+          fair-at (tasks_of x.tasks.now) c.requires.range.tasks _ x.runner c.row_at-row.ensures
           (c.requires.task c.if-runner-lt-TASKS_MOST.true);
       given = c.requires.counts x.runner;
       start = c.requires.start;
@@ -25,11 +25,11 @@ pub returns-then-runner-lt-TASKS_MOST : goal.returns-then-runner-lt-TASKS_MOST
 returns-then-runner-lt-TASKS_MOST c =
     let x = c.args in
     ticks-task x.far x.a (tasks_of x.tasks.now) (handlers_of x.handlers.now) x.given.now x.runner
-    c.if-runner-lt-TASKS_MOST.true _ _ _ _ c.row_of-row.ensures
-    c.lapse-lapse.ensures c.waits.ensures c.lesser.ensures
+    c.if-runner-lt-TASKS_MOST.true _ _ _ _ c.row_at-row.ensures
+    c.lapse-lapse.ensures c.waits.ensures c.min.ensures
 
-pub row_of-row-requires-then-runner-lt-PLACES : goal.row_of-row-requires-then-runner-lt-PLACES
-row_of-row-requires-then-runner-lt-PLACES c =
+pub row_at-row-requires-then-runner-lt-PLACES : goal.row_at-row-requires-then-runner-lt-PLACES
+row_at-row-requires-then-runner-lt-PLACES c =
     (omega (arith, c.if-runner-lt-PLACES.true), c.requires.handler c.if-runner-lt-TASKS_MOST.false c.if-runner-lt-PLACES.true)
 
 pub lapse-requires : goal.lapse-requires
@@ -38,7 +38,7 @@ lapse-requires c =
     let row = c.requires.handler c.if-runner-lt-TASKS_MOST.false c.if-runner-lt-PLACES.true in
     record {
       fair =
-          fair-at (handlers_of x.handlers.now) c.requires.range.handlers _ (x.runner - tasks_most) c.row_of-row-then-runner-lt-PLACES.ensures row;
+          fair-at (handlers_of x.handlers.now) c.requires.range.handlers _ (x.runner - tasks_most) c.row_at-row-then-runner-lt-PLACES.ensures row;
       given = c.requires.counts x.runner;
       start = c.requires.start;
     }
@@ -47,7 +47,7 @@ pub returns-then-runner-lt-PLACES : goal.returns-then-runner-lt-PLACES
 returns-then-runner-lt-PLACES c =
     let x = c.args in
     ticks-handler x.far x.a (tasks_of x.tasks.now) (handlers_of x.handlers.now) x.given.now x.runner
-    c.if-runner-lt-TASKS_MOST.false c.if-runner-lt-PLACES.true _ _ c.row_of-row-then-runner-lt-PLACES.ensures
+    c.if-runner-lt-TASKS_MOST.false c.if-runner-lt-PLACES.true _ _ c.row_at-row-then-runner-lt-PLACES.ensures
     c.lapse.ensures
 
 pub returns : goal.returns
