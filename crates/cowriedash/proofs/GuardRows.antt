@@ -1,14 +1,14 @@
 -- The numbers of a guard's rows are the figures of its answer, and determined.
 use mathlib.Core.Path.{refl, sym, ap, ◌∙◌}
+use Rattle.std.specs.Prelude.{Ok, Err}
 use Rattle.guards.proofs.Answers.{rows-unique}
 use Rattle.guards.specs.Answers.{figures}
-use Rattle.guards.specs.declared.Answer.TheVariants.{Rows, Refused}
 use Rattle.cowriedash.specs.GuardRows.{guard_of, row_numbers, RowsFigured, GuardToldUnique}
 
 pub rows-figured : RowsFigured
 unfolding figures
-rows-figured (Rows interrupt timer period) = refl
-rows-figured (Refused k) = refl
+rows-figured (Ok pair) = refl
+rows-figured (Err e) = refl
 
 pub guard-told-unique : GuardToldUnique
 guard-told-unique b ns x y p q =

@@ -3,13 +3,13 @@ use mathlib.Core.List.{List}
 use mathlib.Core.Path.{◌≡◌, refl, sym, ap, ◌∙◌}
 use lib.IntN.{ℤ}
 use Prim.Native.Nat.{ℕ}
+use Rattle.std.specs.Prelude.{Result, Ok, Err}
 use Rattle.demand.proofs.Answers.{demand-unique, handler-unique, margin-unique}
 use Rattle.demand.specs.Answers.{figures, handler_figures, margin_figures}
 use Rattle.demand.specs.Refusals.{asked_refusal}
 use Rattle.demand.specs.Rows.{tasks_of, handlers_of}
-use Rattle.demand.specs.declared.DemandAnswer.TheVariants as demand
-use Rattle.demand.specs.declared.HandlerAnswer.TheVariants as handler
-use Rattle.demand.specs.declared.MarginAnswer.{MarginAnswer}
+use Rattle.demand.specs.declared.Spare.{Spare}
+use Rattle.demand.specs.declared.refusal.Refusal.{Refusal}
 use Rattle.verdict.specs.Promise.{answer_numbers}
 use Rattle.verdict.proofs.Promise.{verdict-unique}
 use Rattle.cowriedash.specs.Numbers.{demand_numbers, handler_numbers, DemandFigured, HandlerFigured, VerdictTold, DemandTold, HandlerTold, MarginTold}
@@ -29,18 +29,18 @@ pub margin-told-unique : (t h : List ℕ) (l j k : ℕ) (y z : ℤ) (m n : ℕ) 
     → (j ≡ k) × (y ≡ z) × (m ≡ n)
 margin-told-unique t h l j k y z m n p q =
     let same = margin-unique (asked_refusal t h l) (tasks_of t) (handlers_of h) l p.answer q.answer p.says q.says in (
-      p.figured.code ∙ ap (λ (a : MarginAnswer). (margin_figures a).code) same ∙ sym q.figured.code,
-      p.figured.ticks ∙ ap (λ (a : MarginAnswer). (margin_figures a).ticks) same ∙ sym q.figured.ticks,
-      p.figured.left ∙ ap (λ (a : MarginAnswer). (margin_figures a).left) same ∙ sym q.figured.left,
+      p.figured.code ∙ ap (λ (a : Result Spare Refusal). (margin_figures a).code) same ∙ sym q.figured.code,
+      p.figured.ticks ∙ ap (λ (a : Result Spare Refusal). (margin_figures a).ticks) same ∙ sym q.figured.ticks,
+      p.figured.left ∙ ap (λ (a : Result Spare Refusal). (margin_figures a).left) same ∙ sym q.figured.left,
     )
 
 -- What is laid out of a demand are its figures.
 pub demand-figured : DemandFigured
 unfolding figures
-demand-figured (demand.Ticks n) = (refl, refl)
-demand-figured (demand.Refused k) = (refl, refl)
+demand-figured (Ok n) = (refl, refl)
+demand-figured (Err e) = (refl, refl)
 
 pub handler-figured : HandlerFigured
 unfolding handler_figures
-handler-figured (handler.Ticks n m) = (refl, refl, refl)
-handler-figured (handler.Refused k) = (refl, refl, refl)
+handler-figured (Ok share) = (refl, refl, refl)
+handler-figured (Err e) = (refl, refl, refl)

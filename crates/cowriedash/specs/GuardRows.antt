@@ -5,12 +5,13 @@
 --   RowsFigured         those are the figures of the answer
 --   GuardTold b ns out  out are the numbers of an answer that the promise of `rows` allows
 --   GuardToldUnique     and so no others
-use Rattle.std.specs.Prelude.{Bool, true, false, List, [], ◌∷◌, ◌≡◌, get_or, ℕ}
+use Rattle.std.specs.Prelude.{Bool, true, false, List, [], ◌∷◌, ◌≡◌, get_or, ℕ, Result, Ok, Err}
+use Rattle.demand.specs.Numbered.{number_of}
+use Rattle.demand.specs.declared.refusal.Refusal.{Refusal}
 use Rattle.guards.specs.Answers.{figures, RowsSay}
-use Rattle.guards.specs.declared.Answer.{Answer}
-use Rattle.guards.specs.declared.Answer.TheVariants.{Rows, Refused}
 use Rattle.guards.specs.declared.Guard.{Guard}
 use Rattle.guards.specs.declared.Guard.TheVariants.{Strict, Bursty}
+use Rattle.guards.specs.declared.Pair.{Pair}
 
 abbrev at : List ℕ → ℕ → ℕ
 at ns k = get_or ns k 0
@@ -19,15 +20,15 @@ abbrev pub guard_of : Bool → List ℕ → Guard
 guard_of true ns = Bursty (at ns 0) (at ns 1) (at ns 2) (at ns 4) (at ns 5) (at ns 6) (at ns 7) (at ns 8)
 guard_of false ns = Strict (at ns 1) (at ns 2) (at ns 3) (at ns 4) (at ns 5) (at ns 8)
 
-abbrev pub row_numbers : Answer → List ℕ
-row_numbers (Rows interrupt timer period) = 0 ∷ interrupt ∷ timer ∷ period ∷ []
-row_numbers (Refused k) = k ∷ 0 ∷ 0 ∷ 0 ∷ []
+abbrev pub row_numbers : Result Pair Refusal → List ℕ
+row_numbers (Ok pair) = 0 ∷ pair.interrupt ∷ pair.timer ∷ pair.period ∷ []
+row_numbers (Err e) = number_of e ∷ 0 ∷ 0 ∷ 0 ∷ []
 
 abbrev pub RowsFigured : Type 0
-RowsFigured = (r : Answer) → row_numbers r ≡ (figures r).code ∷ (figures r).interrupt ∷ (figures r).timer ∷ (figures r).period ∷ []
+RowsFigured = (r : Result Pair Refusal) → row_numbers r ≡ (figures r).code ∷ (figures r).interrupt ∷ (figures r).timer ∷ (figures r).period ∷ []
 
 pub record GuardTold (b : Bool) (ns out : List ℕ) : Type 0 where
-  pub answer : Answer
+  pub answer : Result Pair Refusal
   pub says : RowsSay (guard_of b ns) answer
   pub numbers : out ≡ row_numbers answer
 

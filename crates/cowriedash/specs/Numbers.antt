@@ -5,62 +5,61 @@
 --   MarginFigured r code ticks left   so are these of a margin
 --   VerdictTold t h out, HandlerTold t h l out, TaskTold t h l out, MarginTold t h l code ticks left
 --                      the numbers are those of an answer that the promise allows
-use Rattle.std.specs.Prelude.{List, [], ◌∷◌, ◌≡◌, ℤ, pos, get_or, ℕ}
+use Rattle.std.specs.Prelude.{List, [], ◌∷◌, ◌≡◌, ℤ, pos, get_or, ℕ, Result, Ok, Err}
 use Rattle.demand.specs.Answers.{figures, handler_figures, margin_figures, DemandSays, HandlerSays, MarginSays}
 use Rattle.demand.specs.Demands.{due}
+use Rattle.demand.specs.Numbered.{number_of}
 use Rattle.demand.specs.Refusals.{asked_refusal}
 use Rattle.demand.specs.Rows.{tasks_of, handlers_of}
-use Rattle.demand.specs.declared.DemandAnswer.{DemandAnswer}
-use Rattle.demand.specs.declared.DemandAnswer.TheVariants as demand
-use Rattle.demand.specs.declared.HandlerAnswer.{HandlerAnswer}
-use Rattle.demand.specs.declared.HandlerAnswer.TheVariants as handler
-use Rattle.demand.specs.declared.MarginAnswer.{MarginAnswer}
+use Rattle.demand.specs.declared.Share.{Share}
+use Rattle.demand.specs.declared.Spare.{Spare}
+use Rattle.demand.specs.declared.refusal.Refusal.{Refusal}
 use Rattle.verdict.specs.Promise.{answer_numbers, VerdictSays}
 use Rattle.verdict.specs.declared.Answer.{Answer}
 
-abbrev pub demand_numbers : DemandAnswer → List ℕ
-demand_numbers (demand.Ticks n) = 0 ∷ n ∷ []
-demand_numbers (demand.Refused k) = k ∷ 0 ∷ []
+abbrev pub demand_numbers : Result ℕ Refusal → List ℕ
+demand_numbers (Ok n) = 0 ∷ n ∷ []
+demand_numbers (Err e) = number_of e ∷ 0 ∷ []
 
-abbrev pub handler_numbers : HandlerAnswer → List ℕ
-handler_numbers (handler.Ticks n m) = 0 ∷ n ∷ m ∷ []
-handler_numbers (handler.Refused k) = k ∷ 0 ∷ 0 ∷ []
+abbrev pub handler_numbers : Result Share Refusal → List ℕ
+handler_numbers (Ok share) = 0 ∷ share.ticks ∷ share.left ∷ []
+handler_numbers (Err e) = number_of e ∷ 0 ∷ 0 ∷ []
 
 abbrev pub DemandFigured : Type 0
-DemandFigured = (r : DemandAnswer) → (get_or (demand_numbers r) 0 0 ≡ (figures r).code) × (pos (get_or (demand_numbers r) 1 0) ≡ (figures r).ticks)
+DemandFigured = (r : Result ℕ Refusal) → (get_or (demand_numbers r) 0 0 ≡ (figures r).code) × (pos (get_or (demand_numbers r) 1 0) ≡ (figures r).ticks)
 
 abbrev pub HandlerFigured : Type 0
 HandlerFigured =
-    (r : HandlerAnswer)
+    (r : Result Share Refusal)
     → (get_or (handler_numbers r) 0 0 ≡ (handler_figures r).code)
     × (pos (get_or (handler_numbers r) 1 0) ≡ (handler_figures r).ticks)
     × (get_or (handler_numbers r) 2 0 ≡ (handler_figures r).left)
 
 pub record VerdictTold (t h out : List ℕ) : Type 0 where
-  pub answer : Answer
+  pub answer : Result Answer Refusal
   pub says : VerdictSays t h answer
   pub numbers : out ≡ answer_numbers answer
 
 -- the numbers of a demand of n ticks, where the refusal is k
 pub record DemandTold (k n : ℕ) (out : List ℕ) : Type 0 where
-  pub answer : DemandAnswer
+  pub answer : Result ℕ Refusal
   pub says : DemandSays k n answer
   pub numbers : out ≡ demand_numbers answer
 
 pub record HandlerTold (t h : List ℕ) (l : ℕ) (out : List ℕ) : Type 0 where
-  pub answer : HandlerAnswer
+  pub answer : Result Share Refusal
   pub says : HandlerSays (asked_refusal t h l) (handlers_of h) l answer
   pub numbers : out ≡ handler_numbers answer
 
 abbrev pub TaskTold : List ℕ → List ℕ → ℕ → List ℕ → Type 0
 TaskTold t h l out = DemandTold (asked_refusal t h l) (due (tasks_of t) l) out
 
-pub record MarginFigured (answer : MarginAnswer) (number : ℕ) (out : ℤ) (over : ℕ) : Type 0 where
+pub record MarginFigured (answer : Result Spare Refusal) (number : ℕ) (out : ℤ) (over : ℕ) : Type 0 where
   pub code : number ≡ (margin_figures answer).code
   pub ticks : out ≡ (margin_figures answer).ticks
   pub left : over ≡ (margin_figures answer).left
 
 pub record MarginTold (t h : List ℕ) (l number : ℕ) (out : ℤ) (over : ℕ) : Type 0 where
-  pub answer : MarginAnswer
+  pub answer : Result Spare Refusal
   pub says : MarginSays (asked_refusal t h l) (tasks_of t) (handlers_of h) l answer
   pub figured : MarginFigured answer number out over

@@ -1,10 +1,8 @@
 // Fixed priorities for C.
-ghost use Rattle.std.specs.Prelude.{◌≡◌};
-ghost use Rattle.cowriedash.specs.ByPriority.{ResponsesTold};
-ghost use Rattle.priority.specs.Answers.{number};
+ghost use Rattle.cowriedash.specs.ByPriority.{ResponsesFigured, ResponsesTold};
 
+use demand::refusal::Refusal;
 use demand::table::TASKS_MOST;
-use priority::Answer;
 
 // The response of each task by fixed priority into out, 0 for none; the refusal's number or 0.
 #[unsafe(no_mangle)]
@@ -15,19 +13,22 @@ pub extern "C" fn cowriedash_responses(
 ) -> u32
     ensures { ResponsesTold tasks.now handlers.now result out.new }
 {
-    let profile = priority::responses(tasks, handlers);
-    let least = profile.least;
-    let answer = profile.answer;
-    *out = least;
-    number_of(answer)
+    tell(priority::responses(tasks, handlers), out)
 }
 
-// The refusal's number, 0 for none.
-pub fn number_of(answer: Answer) -> u32
-    ensures { result ≡ number answer }
+// What is told of responses: the refusal's number or 0, the lengths into out, zeros where there is a refusal.
+#[tactic(auto, unfolding(priority::specs::Answers::figures, priority::specs::Answers::no_lengths))]
+pub fn tell(answer: Result<[u64; TASKS_MOST], Refusal>, out: &mut [u64; TASKS_MOST]) -> u32
+    ensures { ResponsesFigured answer result out.new }
 {
     match answer {
-        Answer::Found => 0,
-        Answer::Refused { number } => number,
+        Ok(least) => {
+            *out = least;
+            0
+        }
+        Err(refusal) => {
+            *out = [0; TASKS_MOST];
+            refusal.number()
+        }
     }
 }

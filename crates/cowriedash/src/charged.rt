@@ -15,7 +15,6 @@ pub extern "C" fn cowriedash_charges(
 )
     ensures { ChargesTold tasks.now handlers.now quantum out.new }
 {
-    let answer = charges::of_table(tasks, handlers, quantum);
-    let told = figures::of_answer(answer);
+    let told = figures::of_answer(charges::of_table(tasks, handlers, quantum));
     *out = figures::numbers(told);
 }

@@ -2,7 +2,8 @@
 ghost use Rattle.std.specs.Prelude.{◌≡◌};
 ghost use Rattle.cowriedash.specs.GuardRows.{guard_of, row_numbers, GuardTold};
 
-use guards::{Answer, Guard};
+use demand::refusal::Refusal;
+use guards::{Guard, Pair};
 
 // How many counts a guard is given by: n, int, flip, setup, work, expire, count, clear, gap.
 pub const COUNTS: usize = 9;
@@ -35,16 +36,18 @@ fn guard_of(bursty: bool, counts: &[u32; COUNTS]) -> Guard
 }
 
 // The numbers of an answer: the refusal's number or 0, both costs, then the period.
-fn row_numbers(answer: Answer) -> [u64; 4]
+fn row_numbers(answer: Result<Pair, Refusal>) -> [u64; 4]
     ensures { result ≡ row_numbers answer }
 {
     match answer {
-        Answer::Rows {
-            interrupt,
-            timer,
-            period,
-        } => [0, interrupt as u64, timer as u64, period as u64],
-        Answer::Refused { number } => [number as u64, 0, 0, 0],
+        Ok(
+            Pair {
+                interrupt,
+                timer,
+                period,
+            },
+        ) => [0, u64::from(interrupt), u64::from(timer), u64::from(period)],
+        Err(refusal) => [u64::from(refusal.number()), 0, 0, 0],
     }
 }
 
@@ -53,6 +56,5 @@ fn row_numbers(answer: Answer) -> [u64; 4]
 pub extern "C" fn cowriedash_guard_rows(bursty: bool, counts: &[u32; COUNTS], out: &mut [u64; 4])
     ensures { GuardTold bursty counts.now out.new }
 {
-    let answer = guards::rows(guard_of(bursty, counts));
-    *out = row_numbers(answer);
+    *out = row_numbers(guards::rows(guard_of(bursty, counts)));
 }

@@ -5,8 +5,7 @@ ghost use Rattle.cowriedash.specs.Numbers.{VerdictTold, HandlerTold, TaskTold, M
 ghost use Rattle.cowriedash.specs.Trimmed.{TrimTold};
 ghost use Rattle.demand.specs.declared.table.Kind.TheVariants.{Task, Handler};
 
-use crate::by_priority::number_of;
-use crate::{demand_numbers, handler_numbers, tell};
+use crate::{by_priority, demand_numbers, handler_numbers, tell};
 use demand::table::TASKS_MOST;
 use verdict::NUMBERS;
 
@@ -19,8 +18,7 @@ pub extern "C" fn cowriedash_verdict_by_column(
 )
     ensures { VerdictTold (row_order Task tasks.now) (row_order Handler handlers.now) out.new }
 {
-    let answer = by_column::verdict(tasks, handlers);
-    *out = verdict::numbers(answer);
+    *out = verdict::numbers(by_column::verdict(tasks, handlers));
 }
 
 // Handler demand at l of a table held by column.
@@ -33,8 +31,7 @@ pub extern "C" fn cowriedash_handler_demand_by_column(
 )
     ensures { HandlerTold (row_order Task tasks.now) (row_order Handler handlers.now) l out.new }
 {
-    let answer = by_column::handler_demand(tasks, handlers, l);
-    *out = handler_numbers(answer);
+    *out = handler_numbers(by_column::handler_demand(tasks, handlers, l));
 }
 
 // Task demand at l of a table held by column.
@@ -47,8 +44,7 @@ pub extern "C" fn cowriedash_task_demand_by_column(
 )
     ensures { TaskTold (row_order Task tasks.now) (row_order Handler handlers.now) l out.new }
 {
-    let answer = by_column::task_demand(tasks, handlers, l);
-    *out = demand_numbers(answer);
+    *out = demand_numbers(by_column::task_demand(tasks, handlers, l));
 }
 
 // The margin at l of a table held by column.
@@ -63,8 +59,7 @@ pub extern "C" fn cowriedash_margin_by_column(
     ensures { MarginTold (row_order Task tasks.now) (row_order Handler handlers.now) l
         result out.new left.new }
 {
-    let answer = by_column::margin(tasks, handlers, l);
-    tell(answer, out, left)
+    tell(by_column::margin(tasks, handlers, l), out, left)
 }
 
 // The response of each task, by fixed priority, of a table held by column.
@@ -77,11 +72,7 @@ pub extern "C" fn cowriedash_responses_by_column(
     ensures { ResponsesTold (row_order Task tasks.now) (row_order Handler handlers.now)
         result out.new }
 {
-    let profile = by_column::responses(tasks, handlers);
-    let least = profile.least;
-    let answer = profile.answer;
-    *out = least;
-    number_of(answer)
+    by_priority::tell(by_column::responses(tasks, handlers), out)
 }
 
 // The greatest cost of the task at row at which a table held by column fits.
@@ -94,6 +85,5 @@ pub extern "C" fn cowriedash_trim_by_column(
 )
     ensures { TrimTold (row_order Task tasks.now) (row_order Handler handlers.now) row out.new }
 {
-    let answer = by_column::trim(tasks, handlers, row);
-    *out = trim::numbers(answer);
+    *out = trim::numbers(by_column::trim(tasks, handlers, row));
 }

@@ -15,6 +15,5 @@ pub extern "C" fn cowriedash_judge(
 )
     ensures { JudgeTold tasks.now handlers.now list.now span out.new }
 {
-    let answer = segments::judge(tasks, handlers, list, span);
-    *out = segments::numbers(answer);
+    *out = segments::numbers(segments::judge(tasks, handlers, list, span));
 }

@@ -12,26 +12,27 @@ ghost use Rattle.cowriedash.specs.Numbers.{demand_numbers, handler_numbers, Marg
 ghost use Rattle.cowriedash.specs.Numbers.{VerdictTold, HandlerTold, TaskTold, MarginTold};
 ghost use Rattle.std.specs.Prelude.{◌≡◌};
 
-use demand::{DemandAnswer, HandlerAnswer, MarginAnswer};
+use demand::refusal::Refusal;
+use demand::{Share, Spare};
 use verdict::NUMBERS;
 
 // The two numbers of a demand: the refusal's number or 0, then the ticks.
-fn demand_numbers(answer: DemandAnswer) -> [u64; 2]
+fn demand_numbers(answer: Result<u64, Refusal>) -> [u64; 2]
     ensures { result ≡ demand_numbers answer }
 {
     match answer {
-        DemandAnswer::Ticks { ticks } => [0, ticks],
-        DemandAnswer::Refused { number } => [number as u64, 0],
+        Ok(ticks) => [0, ticks],
+        Err(refusal) => [u64::from(refusal.number()), 0],
     }
 }
 
 // The three numbers of a handler demand: the refusal's number or 0, the ticks, then the work left over.
-fn handler_numbers(answer: HandlerAnswer) -> [u64; 3]
+fn handler_numbers(answer: Result<Share, Refusal>) -> [u64; 3]
     ensures { result ≡ handler_numbers answer }
 {
     match answer {
-        HandlerAnswer::Ticks { ticks, left } => [0, ticks, left],
-        HandlerAnswer::Refused { number } => [number as u64, 0, 0],
+        Ok(Share { ticks, left }) => [0, ticks, left],
+        Err(refusal) => [u64::from(refusal.number()), 0, 0],
     }
 }
 
@@ -40,8 +41,7 @@ fn handler_numbers(answer: HandlerAnswer) -> [u64; 3]
 pub extern "C" fn cowriedash_verdict(tasks: &[u32], handlers: &[u32], out: &mut [u64; NUMBERS])
     ensures { VerdictTold tasks.now handlers.now out.new }
 {
-    let answer = verdict::verdict(tasks, handlers);
-    *out = verdict::numbers(answer);
+    *out = verdict::numbers(verdict::verdict(tasks, handlers));
 }
 
 // Handler demand at l.
@@ -54,8 +54,7 @@ pub extern "C" fn cowriedash_handler_demand(
 )
     ensures { HandlerTold tasks.now handlers.now l out.new }
 {
-    let answer = demand::handler_demand(tasks, handlers, l);
-    *out = handler_numbers(answer);
+    *out = handler_numbers(demand::handler_demand(tasks, handlers, l));
 }
 
 // Task demand at l.
@@ -68,24 +67,32 @@ pub extern "C" fn cowriedash_task_demand(
 )
     ensures { TaskTold tasks.now handlers.now l out.new }
 {
-    let answer = demand::task_demand(tasks, handlers, l);
-    *out = demand_numbers(answer);
+    *out = demand_numbers(demand::task_demand(tasks, handlers, l));
+}
+
+// A margin, laid where the caller lends.
+fn lay(spare: Spare, out: &mut i64, left: &mut u64)
+    ensures ticks { out.new ≡ spare.ticks }
+    ensures left { left.new ≡ spare.left }
+{
+    *out = spare.ticks;
+    *left = spare.left;
 }
 
 // What is told of a margin: the refusal's number or 0, the ticks into out and the handlers' work left over into left.
-fn tell(answer: MarginAnswer, out: &mut i64, left: &mut u64) -> u32
+#[tactic(auto, unfolding(demand::specs::Answers::margin_figures))]
+fn tell(answer: Result<Spare, Refusal>, out: &mut i64, left: &mut u64) -> u32
     ensures { MarginFigured answer result out.new left.new }
 {
     match answer {
-        MarginAnswer::Ticks { ticks, left: over } => {
-            *out = ticks;
-            *left = over;
+        Ok(spare) => {
+            lay(spare, out, left);
             0
         }
-        MarginAnswer::Refused { number } => {
+        Err(refusal) => {
             *out = 0;
             *left = 0;
-            number
+            refusal.number()
         }
     }
 }
@@ -101,6 +108,5 @@ pub extern "C" fn cowriedash_margin(
 ) -> u32
     ensures { MarginTold tasks.now handlers.now l result out.new left.new }
 {
-    let answer = demand::margin(tasks, handlers, l);
-    tell(answer, out, left)
+    tell(demand::margin(tasks, handlers, l), out, left)
 }

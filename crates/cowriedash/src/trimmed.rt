@@ -13,6 +13,5 @@ pub extern "C" fn cowriedash_trim(
 )
     ensures { TrimTold tasks.now handlers.now row out.new }
 {
-    let answer = trim::trim(tasks, handlers, row);
-    *out = trim::numbers(answer);
+    *out = trim::numbers(trim::trim(tasks, handlers, row));
 }

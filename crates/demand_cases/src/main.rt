@@ -1,18 +1,21 @@
 // Asks both demands and the margin of a list of tables, refused ones among them, and prints the figures.
 #![tactic(auto)]
 
-use demand::{DemandAnswer, HandlerAnswer, MarginAnswer};
+use demand::refusal::Refusal;
+use demand::{Share, Spare};
 use std::io::Stdout;
 
-fn print_demand(out: Stdout, answer: DemandAnswer) {
+fn print_refusal(out: Stdout, refusal: Refusal) {
+    console::say(&out, b"refused ");
+    console::say_number(&out, u64::from(refusal.number()));
+}
+
+fn print_demand(out: Stdout, answer: Result<u64, Refusal>) {
     match answer {
-        DemandAnswer::Ticks { ticks } => {
+        Ok(ticks) => {
             console::say_number(&out, ticks);
         }
-        DemandAnswer::Refused { number } => {
-            console::say(&out, b"refused ");
-            console::say_number(&out, number as u64);
-        }
+        Err(refusal) => print_refusal(out, refusal),
     }
 }
 
@@ -22,37 +25,26 @@ fn print_left(out: Stdout, left: u64) {
     console::say_number(&out, left);
 }
 
-fn print_handler(out: Stdout, answer: HandlerAnswer) {
+fn print_handler(out: Stdout, answer: Result<Share, Refusal>) {
     match answer {
-        HandlerAnswer::Ticks { ticks, left } => {
-            console::say_number(&out, ticks);
-            print_left(out, left);
+        Ok(share) => {
+            console::say_number(&out, share.ticks);
+            print_left(out, share.left);
         }
-        HandlerAnswer::Refused { number } => {
-            console::say(&out, b"refused ");
-            console::say_number(&out, number as u64);
-        }
+        Err(refusal) => print_refusal(out, refusal),
     }
 }
 
-// How far z is from 0.
-fn distance(z: i64) -> u64 {
-    if z < 0 { (-1 - z) as u64 + 1 } else { z as u64 }
-}
-
-fn print_margin(out: Stdout, answer: MarginAnswer) {
+fn print_margin(out: Stdout, answer: Result<Spare, Refusal>) {
     match answer {
-        MarginAnswer::Ticks { ticks, left } => {
-            if ticks < 0 {
+        Ok(spare) => {
+            if spare.ticks < 0 {
                 console::say(&out, b"-");
             }
-            console::say_number(&out, distance(ticks));
-            print_left(out, left);
+            console::say_number(&out, spare.ticks.unsigned_abs());
+            print_left(out, spare.left);
         }
-        MarginAnswer::Refused { number } => {
-            console::say(&out, b"refused ");
-            console::say_number(&out, number as u64);
-        }
+        Err(refusal) => print_refusal(out, refusal),
     }
 }
 

@@ -1,9 +1,8 @@
 // Prints the verdict on cases 1 to 12 of the paper and on tables made to be hard, in the layout of the printed line.
 #![tactic(auto)]
 
-use demand::table::{HANDLER_NUMBERS, TASK_NUMBERS};
+use demand::table::{HANDLER_NUMBERS, HANDLERS_MOST, TASK_NUMBERS, TASKS_MOST};
 use std::io::Stdout;
-use verdict::NUMBERS;
 
 // Ten tasks of 1/10.
 const TEN_ALIKE: [u32; 30] = [
@@ -30,11 +29,9 @@ fn judge(out: Stdout, what: &[u8], tasks: &[u32], handlers: &[u32]) {
     console::say(&out, what);
     let numbers = verdict::numbers(verdict::verdict(tasks, handlers));
     print_word(out, numbers[0]);
-    let mut i = 1;
-    while i < NUMBERS {
+    for number in &numbers[1..] {
         console::say(&out, b",");
-        console::say_number(&out, numbers[i]);
-        i += 1;
+        console::say_number(&out, *number);
     }
     console::say(&out, b"\n");
 }
@@ -58,11 +55,9 @@ fn cases(out: Stdout) {
 // 64 tasks, all alike.
 fn tasks_alike(cost: u32, period: u32, deadline: u32) -> [u32; TASK_NUMBERS] {
     let mut rows = [cost; TASK_NUMBERS];
-    let mut i = 0;
-    while i + 2 < TASK_NUMBERS {
-        rows[i + 1] = period;
-        rows[i + 2] = deadline;
-        i += 3;
+    for k in 0..TASKS_MOST {
+        rows[3 * k + 1] = period;
+        rows[3 * k + 2] = deadline;
     }
     rows
 }
@@ -70,22 +65,10 @@ fn tasks_alike(cost: u32, period: u32, deadline: u32) -> [u32; TASK_NUMBERS] {
 // 16 handlers, all alike.
 fn handlers_alike(cost: u32, period: u32) -> [u32; HANDLER_NUMBERS] {
     let mut rows = [cost; HANDLER_NUMBERS];
-    let mut i = 1;
-    while i < HANDLER_NUMBERS {
-        rows[i] = period;
-        i += 2;
+    for k in 0..HANDLERS_MOST {
+        rows[2 * k + 1] = period;
     }
     rows
-}
-
-// Every row that a table may have.
-fn judge_many(
-    out: Stdout,
-    what: &[u8],
-    tasks: [u32; TASK_NUMBERS],
-    handlers: [u32; HANDLER_NUMBERS],
-) {
-    judge(out, what, &tasks, &handlers);
 }
 
 // Deadlines before the next arrival: the cases of the list in the verdict's statements, and both ends of the range.
@@ -171,35 +154,35 @@ fn hostile(out: Stdout) {
 
 // Every row that a table may have, and tables that have none.
 fn most_and_least(out: Stdout) {
-    judge_many(
+    judge(
         out,
         b"64 and 16, light",
-        tasks_alike(1000, 1000000, 1000000),
-        handlers_alike(1000, 500000),
+        &tasks_alike(1000, 1000000, 1000000),
+        &handlers_alike(1000, 500000),
     );
-    judge_many(
+    judge(
         out,
         b"64 and 16, full",
-        tasks_alike(10000, 1000000, 1000000),
-        handlers_alike(22500, 1000000),
+        &tasks_alike(10000, 1000000, 1000000),
+        &handlers_alike(22500, 1000000),
     );
-    judge_many(
+    judge(
         out,
         b"64 and 16, light and just in time",
-        tasks_alike(1000, 1000000, 80000),
-        handlers_alike(1000, 500000),
+        &tasks_alike(1000, 1000000, 80000),
+        &handlers_alike(1000, 500000),
     );
-    judge_many(
+    judge(
         out,
         b"64 and 16, light and a tick too short",
-        tasks_alike(1000, 1000000, 79999),
-        handlers_alike(1000, 500000),
+        &tasks_alike(1000, 1000000, 79999),
+        &handlers_alike(1000, 500000),
     );
-    judge_many(
+    judge(
         out,
         b"64 and 16, overfull",
-        tasks_alike(1000000, 1, 1),
-        handlers_alike(1000000, 1),
+        &tasks_alike(1000000, 1, 1),
+        &handlers_alike(1000000, 1),
     );
     judge(out, b"tasks not in threes", &[1, 2, 2, 3], &[]);
     judge(out, b"no task", &[], &[1, 1]);
