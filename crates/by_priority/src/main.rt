@@ -9,34 +9,18 @@ use layout::reader::FILE_MOST;
 const READ_MOST: usize = FILE_MOST + 1;
 
 fn main(rt: HostRuntime) {
-    let mut input = [0u8; READ_MOST];
-    let reading = console::read_whole(&mut rt.stdin(), &mut input);
-    let n = reading.count;
-    let whole = reading.whole;
-    if whole {
-        answer(&rt, &input[..n]);
-    } else {
-        console::say(
-            &rt.stderr(),
-            b"priority: standard input could not be read to its end\n",
-        );
-    }
+    let mut room = [0u8; READ_MOST];
+    console::with_input(&rt, b"priority", &mut room, |file| answer(&rt, file));
 }
 
 // Prints the lines of a whole file.
 fn answer(rt: &HostRuntime, file: &[u8]) {
     let mut page = priority_sheet::blank();
     let output = priority_sheet::sheet(file, &mut page);
-    let n = output.len;
-    let refusal = output.refusal;
-    let written = console::say(&rt.stdout(), &page[..n]);
-    if !written {
-        console::say(
-            &rt.stderr(),
-            b"priority: the lines could not be written whole\n",
-        );
-    }
-    if 0 < refusal {
-        console::explain(&rt.stderr(), refusal);
-    }
+    console::answer(
+        rt,
+        &page[..output.len],
+        b"priority: the lines could not be written whole\n",
+        output.refusal,
+    );
 }

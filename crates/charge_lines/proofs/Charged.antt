@@ -1,83 +1,77 @@
 -- The figures of a file (specs/Files): what the code finds meets the promise, and the promise allows nothing else.
 use mathlib.Core.Bool.{Bool, true, false, true≢false}
 use mathlib.Core.List.{List}
-use mathlib.Core.Logic.{inl, inr}
-use mathlib.Core.Path.{◌≡◌, sym, ap, ◌∙◌, subst}
-use borrow.Author.Tests.{eq-eqb, ne_eqb}
+use mathlib.Core.Logic.{◌⊎◌, inl, inr}
+use mathlib.Core.Path.{◌≡◌, refl, sym, ap, ◌∙◌, subst}
 use Prim.Native.Nat.{ℕ}
-use Rattle.charge_lines.specs.Files.{refused_of, AnswerIn, Answered, FileTold, FileCharged, OneCharge}
+use Rattle.charge_lines.specs.Files.{AnswerIn, FileAnswers, Answered, FileTold, FileCharged, OneCharge}
 use Rattle.charges.specs.Figures.{figures}
 use Rattle.charges.specs.Promise.{quantum_outside, ChargeSays}
-use Rattle.charges.specs.declared.Answer.{Answer}
-use Rattle.charges.specs.declared.Answer.TheVariants as answer
+use Rattle.charges.specs.declared.Charged.{Charged}
+use Rattle.std.specs.Prelude.{Result, Ok, Err}
+use Rattle.demand.specs.Numbered.{refusal_at}
+use Rattle.demand.specs.declared.refusal.Refusal.{Refusal}
+use Rattle.demand.specs.declared.refusal.Refusal.TheVariants.{FileMalformed, QuantumOutOfRange}
+use Rattle.demand.proofs.Numbered.{refusal_at-number}
 use Rattle.charges.specs.declared.figures.Figures.{Figures}
 use Rattle.charges.proofs.Once.{charge-unique}
-use Rattle.demand.specs.Refusals.{table_refusal}
-use Rattle.demand.specs.Tests.{pick}
 use Rattle.demand.specs.declared.table.Kind.TheVariants.{Task, Handler}
-use Rattle.layout.specs.File.{Entry, FileSays}
-use Rattle.layout.specs.Refusals.{refusal_in}
-use Rattle.layout.specs.Table.{list_of, misplaced, table_of, ReadSays}
+use Rattle.layout.specs.File.{Entry, FileSays, SaysNothing}
+use Rattle.layout.specs.Refusals.{Misplaces, TableIn}
+use Rattle.layout.specs.Table.{list_of, misplaced, listed}
 use Rattle.layout.specs.declared.reader.Table.{Table}
 use Rattle.layout.proofs.File.{says-unique}
-use Rattle.layout.proofs.Table.{listed, flat-listed}
+use Rattle.layout.proofs.Table.{table-lists, table-refused}
 
--- ---- the answer to a table, by whether a handler has a deadline
-
-module _ (t h : List ℕ) (q : ℕ) (a : Answer) where
-  pub placed-answer : (m : Bool) → m ≡ false → ChargeSays t h q a → AnswerIn m t h q a
-  unfolding AnswerIn
-  placed-answer true e says = absurd (true≢false e)
-  placed-answer false e says = says
-
-  misplaced-answer : (m : Bool) → m ≡ true → a ≡ answer.Refused (refusal_in true t h) → AnswerIn m t h q a
-  unfolding AnswerIn
-  misplaced-answer true e told = told
-  misplaced-answer false e told = absurd (true≢false (sym e))
-
-  -- Where the table's own refusal is k.
-  pub misplaced-thirteen : (m : Bool) (k : ℕ) → m ≡ true → k ≡ table_refusal t h → k ≡ 0 → a ≡ answer.Refused 13 → AnswerIn m t h q a
-  misplaced-thirteen m k e own zero told =
-      misplaced-answer m e (told ∙ ap answer.Refused (sym (ap (λ (b : Bool). pick b 13 (table_refusal t h)) (eq-eqb _ _ (sym own ∙ zero)))))
-
-  pub misplaced-own : (m : Bool) (k : ℕ) → m ≡ true → k ≡ table_refusal t h → (k ≡ 0 → ⊥) → a ≡ answer.Refused k → AnswerIn m t h q a
-  misplaced-own m k e own some told =
-      misplaced-answer m e
-      (told ∙ ap answer.Refused (own ∙ sym (ap (λ (b : Bool). pick b 13 (table_refusal t h)) (ne_eqb _ _ (λ z. some (own ∙ z))))))
-
--- ---- what was read
+-- ---- the answer for the table of a file
 
 module _ (bs : List ℕ) (q : ℕ) where
-  pub charged-nineteen : (g : Figures) → quantum_outside q ≡ true → g ≡ refused_of 19 → FileCharged bs q g
-  unfolding FileCharged
-  charged-nineteen g out e = inl (out, e)
+  pub answers-nineteen : quantum_outside q ≡ true → FileAnswers bs q (Err QuantumOutOfRange)
+  unfolding FileAnswers
+  answers-nineteen out = inl (out, refl)
 
-  module _ (inside : quantum_outside q ≡ false) (t : Table) (g : Figures) where
-    pub charged-broken : ReadSays bs t → t.ok ≡ false → g ≡ refused_of 12 → FileCharged bs q g
-    unfolding FileCharged ReadSays
-    charged-broken (inl r) broken e = absurd (true≢false (sym (ap (λ (x : Table). x.ok) r.2) ∙ broken))
-    charged-broken (inr r) broken e = inr (inside, inr (r.0, e))
+  module _ (inside : quantum_outside q ≡ false) where
+    pub answers-refused : (r : Refusal) → TableIn bs (Err r) → FileAnswers bs q (Err r)
+    unfolding FileAnswers AnswerIn
+    answers-refused r told = go (table-refused bs r told)
+      where
+        go : Misplaces bs r ⊎ (SaysNothing bs × (r ≡ FileMalformed)) → FileAnswers bs q (Err r)
+        go (inl m) =
+            inr (
+              inside,
+              inl (
+                m.rows,
+                m.says,
+                subst (λ (b : Bool). AnswerIn b (list_of Task m.rows) (list_of Handler m.rows) q (Err r)) (sym m.placed)
+                    (ap Err (sym (refusal_at-number r) ∙ ap refusal_at m.number)),
+              ),
+            )
+        go (inr n) = inr (inside, inr (n.0, ap Err n.1))
 
-    -- What is told of the lists that were read is told of the file's rows.
-    told_of : (a : Answer) (r : (es : List Entry) × FileSays bs es × (t ≡ table_of es)) → AnswerIn t.misplaced (listed t.tasks) (listed t.handlers) q a
-        → AnswerIn (misplaced r.0) (list_of Task r.0) (list_of Handler r.0) q a
-    told_of a r says =
-        let deadline : t.misplaced ≡ misplaced r.0 = ap (λ (x : Table). x.misplaced) r.2 in
-        let tasks : listed t.tasks ≡ list_of Task r.0 = ap (λ (x : Table). listed x.tasks) r.2 ∙ flat-listed (list_of Task r.0) in
-        let handlers : listed t.handlers ≡ list_of Handler r.0 = ap (λ (x : Table). listed x.handlers) r.2 ∙ flat-listed (list_of Handler r.0) in
-        subst (λ (m : Bool). AnswerIn m (list_of Task r.0) (list_of Handler r.0) q a) deadline
-        (subst (λ (s : List ℕ). AnswerIn t.misplaced (list_of Task r.0) s q a) handlers
-        (subst (λ (s : List ℕ). AnswerIn t.misplaced s (listed t.handlers) q a) tasks says))
+    pub answers-charged : (t : Table) (ts hs : List ℕ) (a : Result Charged Refusal) → TableIn bs (Ok t)
+        → ts ≡ listed t.tasks → hs ≡ listed t.handlers → ChargeSays ts hs q a → FileAnswers bs q a
+    unfolding FileAnswers AnswerIn
+    answers-charged t ts hs a told tasks handlers says =
+        let l = table-lists bs t told in
+        let lent : ChargeSays (list_of Task l.rows) (list_of Handler l.rows) q a =
+        subst (λ (s : List ℕ). ChargeSays s (list_of Handler l.rows) q a) (tasks ∙ l.tasks)
+        (subst (λ (s : List ℕ). ChargeSays ts s q a) (handlers ∙ l.handlers) says) in
+        inr (inside, inl (l.rows, l.says, subst (λ (b : Bool). AnswerIn b (list_of Task l.rows) (list_of Handler l.rows) q a) (sym l.placed) lent))
 
-    pub charged-read : (a : Answer) → ReadSays bs t → t.ok ≡ true → AnswerIn t.misplaced (listed t.tasks) (listed t.handlers) q a
-        → g ≡ figures a → FileCharged bs q g
-    unfolding FileCharged ReadSays
-    charged-read a (inl r) ok says e = inr (inside, inl (r.0, r.1, record { answer = a; says = told_of a r says; told = e }))
-    charged-read a (inr r) ok says e = absurd (true≢false (sym ok ∙ ap (λ (x : Table). x.ok) r.1))
+  -- The figures of such an answer are the file's.
+  pub answers-figures : (a : Result Charged Refusal) (g : Figures) → FileAnswers bs q a → g ≡ figures a → FileCharged bs q g
+  unfolding FileAnswers FileCharged
+  answers-figures a g (inl out) e = inl (out.0, e ∙ ap figures out.1)
+  answers-figures a g (inr told) e = inr (told.0, go told.1)
+    where
+      go : ((es : List Entry) × FileSays bs es × AnswerIn (misplaced es) (list_of Task es) (list_of Handler es) q a)
+          ⊎ (SaysNothing bs × (a ≡ Err FileMalformed)) → FileTold bs q g
+      go (inl f) = inl (f.0, f.1, record { answer = a; says = f.2; told = e })
+      go (inr n) = inr (n.0, e ∙ ap figures n.1)
 
 -- ---- and nothing else is allowed
 
-answer-unique : (m : Bool) (t h : List ℕ) (q : ℕ) (a b : Answer) → AnswerIn m t h q a → AnswerIn m t h q b → a ≡ b
+answer-unique : (m : Bool) (t h : List ℕ) (q : ℕ) (a b : Result Charged Refusal) → AnswerIn m t h q a → AnswerIn m t h q b → a ≡ b
 unfolding AnswerIn
 answer-unique true t h q a b x y = x ∙ sym y
 answer-unique false t h q a b x y = charge-unique t h q a b x y

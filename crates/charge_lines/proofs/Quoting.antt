@@ -1,5 +1,6 @@
 -- Laws of a name as a field (specs/Line): byte by byte, and within a line.
 use mathlib.Core.Bool.{Bool, true, false, ◌||◌}
+use Rattle.std.specs.Prelude.{MatchBool}
 use mathlib.Core.List.{List, [], ◌∷◌, ◌++◌, append_assoc, append-nil}
 use mathlib.Core.Path.{◌≡◌, refl, sym, ap, ◌∙◌}
 use native.Mathlib.Nat.{zero-add}
@@ -7,7 +8,7 @@ use native.Mathlib.Numerals.{add-one}
 use native.Mathlib.Omega.{arith}
 use Prim.Native.Nat.{ℕ, zero, suc, ◌+◌, ◌*◌, ◌≤◌, ◌<◌, min}
 use lib.Dec.{eqb}
-use lib.ListN.{length, get_or, take, drop, replicate, length-append, length-take}
+use lib.ListN.{length, get_or, take, replicate, length-append, length-take}
 use lib.Seq.{take-suc, take_all, length-take-le}
 use Rattle.charge_lines.specs.Line.{some, quotes, double, doubled, name_field, special, name_most, line_most, tail_of, line_of, printed}
 use Rattle.charge_lines.specs.declared.Line.{Line}
@@ -22,20 +23,25 @@ use Rattle.page.proofs.Laid.{end-room, laid-append, laid-length, laid-nothing}
 
 -- ---- a test of each byte
 
--- The test of the byte at i and of those behind it.
-pub some_at : (test : ℕ → Bool) (bs : List ℕ) (i : ℕ) → i < length bs
-    → some test (drop i bs) ≡ (test (get_or bs i 0) || some test (drop (suc i) bs))
+-- Some byte passes the test, or none does.
+pub some_by : (test : ℕ → Bool) (bs : List ℕ) (r : Bool)
+    → MatchBool r ((k : ℕ) × (k < length bs) × (test (get_or bs k 0) ≡ true)) ((k : ℕ) → k < length bs → test (get_or bs k 0) ≡ false) → r ≡ some test bs
 unfolding some
-some_at test [] i l = absurd (omega arith)
-some_at test (b ∷ bs) zero l = refl
-some_at test (b ∷ bs) (suc i) l = some_at test bs i (omega arith)
+some_by test bs true h = sym (found bs h.0 h.1 h.2)
+  where
+    either : (b : Bool) → b || true ≡ true
+    either true = refl
+    either false = refl
 
-pub some-past : (test : ℕ → Bool) (bs : List ℕ) (i : ℕ) → length bs ≤ i → some test (drop i bs) ≡ false
-unfolding some
-some-past test [] zero l = refl
-some-past test [] (suc i) l = refl
-some-past test (b ∷ bs) zero l = absurd (omega arith)
-some-past test (b ∷ bs) (suc i) l = some-past test bs i (omega arith)
+    found : (xs : List ℕ) (k : ℕ) → k < length xs → test (get_or xs k 0) ≡ true → some test xs ≡ true
+    found [] k l e = absurd (omega arith)
+    found (x ∷ xs) zero l e = rw e refl
+    found (x ∷ xs) (suc k) l e = rw (found xs k (omega arith) e) (either (test x))
+some_by test bs false h = sym (missed bs h)
+  where
+    missed : (xs : List ℕ) → ((k : ℕ) → k < length xs → test (get_or xs k 0) ≡ false) → some test xs ≡ false
+    missed [] f = refl
+    missed (x ∷ xs) f = rw (f 0 (omega arith)) (missed xs (λ k l. f (suc k) (omega arith)))
 
 -- ---- each quote doubled
 
@@ -188,12 +194,13 @@ module _ (page bs : List ℕ) (short : length bs ≤ name_most) (wide : length p
 pub name-count : (n : ℕ) (name : List ℕ) → n ≡ min (length name) name_most → (n ≡ length (take n name)) × (length (take n name) ≤ name_most)
 name-count n name e = (omega (arith, e, length-take n name), omega (arith, e, length-take n name))
 
-pub line-laid : (name : List ℕ) (g : Figures) (n at r : ℕ) (p q : List ℕ) (t : Text) → n ≡ min (length name) name_most
+pub line-laid : (name : List ℕ) (g : Figures) (n at r : ℕ) (p q : List ℕ) (t : Text) (tail : List ℕ) → n ≡ min (length name) name_most
     → (at ≡ length (name_field (take n name))) × (p ≡ laid (replicate line_most 0) 0 (name_field (take n name))) → t ≡ text_of (tail_of g)
-    → (r ≡ end_of (length p) at (length (take t.len t.bytes))) × (q ≡ laid p at (take t.len t.bytes))
+    → tail ≡ take t.len t.bytes → (r ≡ end_of (length p) at (length tail)) × (q ≡ laid p at tail)
     → ◌≡◌ {A = Line} (record { bytes = q; len = r }) (printed name g)
 unfolding printed line_of
-line-laid name g n at r p q t en (eat, ep) et (er, eq) =
+line-laid name g n at r p q t tail en (eat, ep) et es (er, eq) =
+    let said : tail ≡ tail_of g = es ∙ text-bytes t (tail_of g) et in
     let zeros : List ℕ = replicate line_most 0 in
     let f = name_field (take n name) in
     let most : length f ≤ 8192 = field-most (take n name) (name-count n name en).1 in
@@ -204,13 +211,13 @@ line-laid name g n at r p q t en (eat, ep) et (er, eq) =
     let end : r ≡ length (f ++ tail_of g) =
     omega (
       arith,
-      er ∙ ap (λ (bs : List ℕ). end_of (length p) at (length bs)) (text-bytes t (tail_of g) et)
+      er ∙ ap (λ (bs : List ℕ). end_of (length p) at (length bs)) said
           ∙ end-room p (tail_of g) at (omega (arith, room, long, wide, place)),
       eat,
       length-append f (tail_of g),
     ) in
     let page : q ≡ laid zeros 0 (f ++ tail_of g) =
-    eq ∙ ap (laid p at) (text-bytes t (tail_of g) et) ∙ ap (λ (z : List ℕ). laid z at (tail_of g)) ep
+    eq ∙ ap (laid p at) said ∙ ap (λ (z : List ℕ). laid z at (tail_of g)) ep
     ∙ ap (λ (m : ℕ). laid (laid zeros 0 f) m (tail_of g)) place ∙ laid-append zeros f (tail_of g) 0 room in
     let name-same : take n name ≡ take (min (length name) name_most) name = ap (λ (m : ℕ). take m name) en in
     (λ i. record { bytes = page i; len = end i })

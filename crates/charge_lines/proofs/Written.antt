@@ -82,13 +82,12 @@ way-most way.Task = omega arith
 three : (t : Text) (a b c : List ℕ) → puts_of (puts_of (puts_of t a) b) c ≡ puts_of t (a ++ (b ++ c))
 three t a b c = simp (← puts-append, append_assoc)
 
-pub count-written : (w : Way) (n : Counts) {a b r : Text} → a ≡ text_of (way_name w) → b ≡ puts_of a (fields_of (n.fits ∷ n.misses ∷ n.none ∷ []))
+pub count-written : (w : Way) (n : Counts) {a b r : Text} → a ≡ puts_of blank_text (way_name w) → b ≡ puts_of a (fields_of (n.fits ∷ n.misses ∷ n.none ∷ []))
     → r ≡ puts_of b crlf → r ≡ text_of (count_line w n)
 unfolding count_line
 count-written w n {r = r} ea eb e =
     let numbers = fields_of (n.fits ∷ n.misses ∷ n.none ∷ []) in
     let short : length (count_line w n) ≤ 80 =
     omega (arith, length-append (way_name w) (numbers ++ crlf), length-append numbers crlf, way-most w, fields-most (n.fits ∷ n.misses ∷ n.none ∷ [])) in
-    let named : text_of (way_name w) ≡ puts_of blank_text (way_name w) = sym (puts-blank (way_name w) (omega (arith, way-most w))) in
     let all : r ≡ puts_of blank_text (count_line w n) = cc (three blank_text (way_name w) numbers crlf) in
     all ∙ puts-blank (count_line w n) (omega (arith, short))

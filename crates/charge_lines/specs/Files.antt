@@ -2,13 +2,17 @@
 --   refused_of n          == those of a refusal: its number, and none in both other ways
 --   AnswerIn m t h q a   a is the answer to the table t, h in a file: where m says that a handler has a deadline 13, unless a refusal that
 --                        comes first applies, else what the call on a table promises
+--   FileAnswers bs q a   a is the answer for the table that the file bs says
 --   FileCharged bs q g   g are the figures of the file bs with a quantum of q ticks: 19 before all, 12 where the file breaks the layout
 --   OneCharge            a file has such figures and no other
-use Rattle.std.specs.Prelude.{Bool, true, false, List, ◌⊎◌, ◌≡◌, ℕ}
+use Rattle.std.specs.Prelude.{Bool, true, false, List, ◌⊎◌, ◌≡◌, ℕ, Result, Err}
 use Rattle.charges.specs.Figures.{figures}
 use Rattle.charges.specs.Promise.{quantum_outside, ChargeSays}
-use Rattle.charges.specs.declared.Answer.{Answer}
-use Rattle.charges.specs.declared.Answer.TheVariants as answer
+use Rattle.charges.specs.declared.Charged.{Charged}
+use Rattle.charges.specs.declared.figures.Word.TheVariants as word
+use Rattle.demand.specs.Numbered.{refusal_at}
+use Rattle.demand.specs.declared.refusal.Refusal.{Refusal}
+use Rattle.demand.specs.declared.refusal.Refusal.TheVariants.{FileMalformed, QuantumOutOfRange}
 use Rattle.charges.specs.declared.figures.Figures.{Figures}
 use Rattle.demand.specs.declared.table.Kind.TheVariants.{Task, Handler}
 use Rattle.layout.specs.File.{Entry, FileSays, SaysNothing}
@@ -16,15 +20,31 @@ use Rattle.layout.specs.Refusals.{refusal_in}
 use Rattle.layout.specs.Table.{list_of, misplaced}
 
 abbrev pub refused_of : ℕ → Figures
-refused_of n = figures (answer.Refused n)
+refused_of n = record {
+  exact = word.Refused;
+  code = n;
+  load = 0;
+  quantum = word.None;
+  quantum_load = 0;
+  task = word.None;
+  task_load = 0;
+}
 
-unfoldable pub AnswerIn : Bool → List ℕ → List ℕ → ℕ → Answer → Type 0
-AnswerIn true t h q a = a ≡ answer.Refused (refusal_in true t h)
+unfoldable pub AnswerIn : Bool → List ℕ → List ℕ → ℕ → Result Charged Refusal → Type 0
+AnswerIn true t h q a = a ≡ Err (refusal_at (refusal_in true t h))
 AnswerIn false t h q a = ChargeSays t h q a
+
+-- before all 19, then 12
+unfoldable pub FileAnswers : List ℕ → ℕ → Result Charged Refusal → Type 0
+FileAnswers bs q a =
+    ((quantum_outside q ≡ true) × (a ≡ Err QuantumOutOfRange))
+    ⊎ ((quantum_outside q ≡ false)
+    × (((es : List Entry) × FileSays bs es × AnswerIn (misplaced es) (list_of Task es) (list_of Handler es) q a)
+    ⊎ (SaysNothing bs × (a ≡ Err FileMalformed))))
 
 -- the figures of a file that says the rows es
 pub record Answered (es : List Entry) (q : ℕ) (g : Figures) : Type 0 where
-  pub answer : Answer
+  pub answer : Result Charged Refusal
   pub says : AnswerIn (misplaced es) (list_of Task es) (list_of Handler es) q answer
   pub told : g ≡ figures answer
 

@@ -1,6 +1,6 @@
 // How many lines fit, miss or say nothing, for each way of charging.
-ghost use Rattle.std.specs.Prelude.{◌≡◌, min, ◌+◌};
-ghost use Rattle.charge_lines.specs.Counts.{most, counted, way_name, count_line};
+ghost use Rattle.std.specs.Prelude.{◌≡◌};
+ghost use Rattle.charge_lines.specs.Counts.{counted, way_name, count_line};
 ghost use Rattle.text.specs.Text.{text_of};
 
 use charges::figures::Word;
@@ -32,52 +32,33 @@ pub fn start() -> Counts
     }
 }
 
-// One more, as far as a number goes.
-fn more(n: u64) -> u64
-    ensures { result ≡ min (n + 1) most }
-{
-    if n < 18_446_744_073_709_551_615 {
-        n + 1
-    } else {
-        n
-    }
-}
-
-// A line more, with this word.
+// A line more, with this word, as far as a number goes.
 pub fn add(counts: Counts, word: Word) -> Counts
     ensures { result ≡ counted counts word }
 {
     match word {
         Word::Fits => Counts {
-            fits: more(counts.fits),
-            misses: counts.misses,
-            none: counts.none,
+            fits: counts.fits.saturating_add(1),
+            ..counts
         },
         Word::Misses => Counts {
-            fits: counts.fits,
-            misses: more(counts.misses),
-            none: counts.none,
+            misses: counts.misses.saturating_add(1),
+            ..counts
         },
-        Word::None => Counts {
-            fits: counts.fits,
-            misses: counts.misses,
-            none: more(counts.none),
-        },
-        Word::Refused => Counts {
-            fits: counts.fits,
-            misses: counts.misses,
-            none: more(counts.none),
+        Word::None | Word::Refused => Counts {
+            none: counts.none.saturating_add(1),
+            ..counts
         },
     }
 }
 
-fn name(way: Way) -> Text
-    ensures { result ≡ text_of (way_name way) }
+fn name(way: Way) -> &'static [u8]
+    ensures { result.now ≡ way_name way }
 {
     match way {
-        Way::Exact => text::of(b"exact"),
-        Way::Quantum => text::of(b"quantum"),
-        Way::Task => text::of(b"task"),
+        Way::Exact => b"exact",
+        Way::Quantum => b"quantum",
+        Way::Task => b"task",
     }
 }
 
@@ -86,5 +67,5 @@ pub fn line(way: Way, counts: Counts) -> Text
     ensures { result ≡ text_of (count_line way counts) }
 {
     let numbers = [counts.fits, counts.misses, counts.none];
-    text::puts(text::fields(name(way), &numbers), b"\r\n")
+    text::puts(text::fields(text::of(name(way)), &numbers), b"\r\n")
 }

@@ -1,59 +1,34 @@
 // The figures of a table file.
 ghost use Rattle.std.specs.Prelude.{◌≡◌};
-ghost use Rattle.charge_lines.specs.Files.{refused_of, AnswerIn, FileCharged};
+ghost use Rattle.charge_lines.specs.Files.{refused_of, FileAnswers, FileCharged};
+ghost use Rattle.demand.specs.Numbered.{number_of};
 
 use charges::figures::Figures;
-use charges::{Answer, QUANTUM_MOST, figures};
+use charges::{Charged, QUANTUM_MOST, figures};
+use demand::refusal::Refusal;
 use layout::reader;
 
 // Those of a refusal.
-pub fn refused(number: u32) -> Figures
-    ensures { result ≡ refused_of number }
+pub fn refused(refusal: Refusal) -> Figures
+    ensures { result ≡ refused_of (number_of refusal) }
 {
-    let answer = Answer::Refused { number };
-    figures::of_answer(answer)
+    figures::of_answer(Err(refusal))
 }
 
-// The answer to a table in a file: what the call on a table answers, or a refusal where a handler has a deadline, 13 unless one that comes
-// first applies.
-fn answer(misplaced: bool, tasks: &[u32], handlers: &[u32], quantum: u64) -> Answer
-    ensures { AnswerIn misplaced tasks.now handlers.now quantum result }
+// The answer to the table that a file says. A quantum out of range is refused before the file is read.
+fn answer(input: &[u8], quantum: u64) -> Result<Charged, Refusal>
+    ensures { FileAnswers input.now quantum result }
 {
-    if !misplaced {
-        return charges::of_table(tasks, handlers, quantum);
+    if (quantum == 0) | (QUANTUM_MOST < quantum) {
+        return Err(Refusal::QuantumOutOfRange);
     }
-    let number = demand::refusal::of_table(tasks, handlers);
-    if number == 0 {
-        Answer::Refused { number: 13 }
-    } else {
-        Answer::Refused { number }
-    }
+    let table = reader::table_in(input)?;
+    charges::of_table(table.tasks(), table.handlers(), quantum)
 }
 
-// From the bytes of a table file to its figures. A quantum out of range is refused before the file is read.
+// From the bytes of a table file to its figures.
 pub fn of_file(input: &[u8], quantum: u64) -> Figures
     ensures { FileCharged input.now quantum result }
 {
-    if (quantum == 0) | (QUANTUM_MOST < quantum) {
-        return refused(19);
-    }
-    let table = reader::read(input);
-    let ok = table.ok;
-    if !ok {
-        return refused(12);
-    }
-    let misplaced = table.misplaced;
-    let tasks = table.tasks;
-    let handlers = table.handlers;
-    let task_numbers = tasks.numbers;
-    let handler_numbers = handlers.numbers;
-    let n = tasks.len;
-    let m = handlers.len;
-    let told = answer(
-        misplaced,
-        &task_numbers[..n],
-        &handler_numbers[..m],
-        quantum,
-    );
-    figures::of_answer(told)
+    figures::of_answer(answer(input, quantum))
 }

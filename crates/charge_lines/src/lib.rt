@@ -6,7 +6,7 @@ pub mod files;
 mod names;
 mod tails;
 
-ghost use Rattle.std.specs.Prelude.{◌≡◌};
+ghost use Rattle.std.specs.Prelude.{◌≡◌, take};
 ghost use Rattle.charge_lines.specs.Line.{printed};
 
 use charges::figures::Figures;
@@ -24,6 +24,15 @@ pub struct Line {
     pub len: usize,
 }
 
+impl Line {
+    // Its bytes.
+    pub fn as_bytes(&self) -> &[u8]
+        ensures { result.now ≡ take self.now.len self.now.bytes }
+    {
+        &self.bytes[..self.len.min(LINE_MOST)]
+    }
+}
+
 // The line of the table with this name.
 pub fn of_table(name: &[u8], figures: Figures) -> Line
     ensures { result ≡ printed name.now figures }
@@ -32,7 +41,6 @@ pub fn of_table(name: &[u8], figures: Figures) -> Line
     let n = names::count(name);
     let at = names::field(&mut bytes, &name[..n]);
     let tail = tails::of_figures(figures);
-    let text = tail.bytes;
-    let len = page::lay(&mut bytes, at, &text[..tail.len]);
+    let len = page::lay(&mut bytes, at, tail.as_bytes());
     Line { bytes, len }
 }

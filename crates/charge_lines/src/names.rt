@@ -9,11 +9,7 @@ use crate::NAME_MOST;
 pub fn count(name: &[u8]) -> usize
     ensures { result ≡ min (length name.now) name_most }
 {
-    if NAME_MOST < name.len() {
-        NAME_MOST
-    } else {
-        name.len()
-    }
+    name.len().min(NAME_MOST)
 }
 
 // Does a byte ask for quotes: a quote, a comma, or one of a line end?
@@ -26,21 +22,14 @@ fn special(b: u8) -> bool
 fn some_special(name: &[u8]) -> bool
     ensures { result ≡ some special name.now }
 {
-    let mut i = 0;
-    while i < name.len() {
-        if special(name[i]) {
-            return true;
-        }
-        i += 1;
-    }
-    false
+    name.iter().any(|b| special(*b))
 }
 
 // How many quotes go behind a byte: a quote is doubled.
 fn quotes(b: u8) -> usize
     ensures { result ≡ quotes b }
 {
-    if b == b'"' { 1 } else { 0 }
+    usize::from(b == b'"')
 }
 
 // Lays a byte over the page, a quote doubled; the answer is where it ends.
@@ -60,10 +49,8 @@ fn doubled(page: &mut [u8], at: usize, name: &[u8]) -> usize
         (page.new ≡ laid page.old at (doubled name.now)) }
 {
     let mut to = at;
-    let mut i = 0;
-    while i < name.len() {
-        to = put(page, to, name[i]);
-        i += 1;
+    for b in name {
+        to = put(page, to, *b);
     }
     to
 }

@@ -6,15 +6,15 @@ ghost use Rattle.text.specs.Text.{text_of, puts_of};
 use charges::figures::{Figures, Word};
 use text::Text;
 
-// A comma and a word more.
-fn word(text: Text, word: Word) -> Text
-    ensures { result ≡ puts_of text (word_field word) }
+// A comma and a word.
+fn field(word: Word) -> &'static [u8]
+    ensures { result.now ≡ word_field word }
 {
     match word {
-        Word::Fits => text::puts(text, b",fits"),
-        Word::Misses => text::puts(text, b",misses"),
-        Word::None => text::puts(text, b",none"),
-        Word::Refused => text::puts(text, b",refused"),
+        Word::Fits => b",fits",
+        Word::Misses => b",misses",
+        Word::None => b",none",
+        Word::Refused => b",refused",
     }
 }
 
@@ -22,20 +22,16 @@ fn word(text: Text, word: Word) -> Text
 fn part(text: Text, said: Word, load: u64) -> Text
     ensures { result ≡ puts_of text (part_field said load) }
 {
-    let figures = [load];
-    text::fields(word(text, said), &figures)
+    text::fields(text::puts(text, field(said)), &[load])
 }
 
 // All of it.
 pub fn of_figures(figures: Figures) -> Text
     ensures { result ≡ text_of (tail_of figures) }
 {
-    let exact = figures.exact;
-    let quantum = figures.quantum;
-    let task = figures.task;
-    let numbers = [figures.code, figures.load];
-    let a = text::fields(word(text::blank(), exact), &numbers);
-    let b = part(a, quantum, figures.quantum_load);
-    let c = part(b, task, figures.task_load);
+    let exact = text::of(field(figures.exact));
+    let a = text::fields(exact, &[figures.code, figures.load]);
+    let b = part(a, figures.quantum, figures.quantum_load);
+    let c = part(b, figures.task, figures.task_load);
     text::puts(c, b"\r\n")
 }

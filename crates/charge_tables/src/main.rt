@@ -10,8 +10,10 @@ use charge_lines::counts::{Counts, Way};
 use charge_lines::{counts, files};
 use charges::QUANTUM_MOST;
 use charges::figures::Figures;
+use demand::refusal::Refusal;
 use layout::reader::FILE_MOST;
 use std::fs::File;
+use text::spelled;
 
 // One byte more than a file may have is read, so that a longer one is known as such.
 const READ_MOST: usize = FILE_MOST + 1;
@@ -24,30 +26,28 @@ const QUANTUM_LIMIT: u64 = 1_000_000;
 
 const ARGUMENT_MOST: usize = 16;
 
-const LINES_MOST: u64 = 18_446_744_073_709_551_615;
-
 fn main(rt: HostRuntime) {
     let mut digits = [0u8; ARGUMENT_MOST];
     let k = console::argument(&rt, 1, &mut digits);
-    let quantum = text::spelled::number(QUANTUM_LIMIT, &digits[..k]);
     console::say(
         &rt.stdout(),
         b"name,exact,code,load,quantum,quantum load,task,task load\r\n",
     );
-    if (quantum == 0) | (QUANTUM_MOST < quantum) {
-        if !print(&rt, b"", files::refused(19)) {
-            unwritten(&rt);
+    match spelled::number(QUANTUM_LIMIT, &digits[..k]) {
+        Some(quantum @ 1..=QUANTUM_MOST) => all(&rt, quantum),
+        _ => {
+            if !print(&rt, b"", files::refused(Refusal::QuantumOutOfRange)) {
+                unwritten(&rt);
+            }
+            console::explain(&rt.stderr(), Refusal::QuantumOutOfRange.number());
         }
-        console::explain(&rt.stderr(), 19);
-    } else {
-        all(&rt, quantum);
     }
 }
 
 // The figures of the file with this name: 12 where it cannot be opened or read to its end.
 fn of_name(rt: &HostRuntime, name: &[u8], quantum: u64) -> Figures {
     match console::open(rt, name) {
-        None => files::refused(12),
+        None => files::refused(Refusal::FileMalformed),
         Some(file) => of_open(file, quantum),
     }
 }
@@ -55,26 +55,17 @@ fn of_name(rt: &HostRuntime, name: &[u8], quantum: u64) -> Figures {
 // The figures of an opened file.
 fn of_open(mut file: File, quantum: u64) -> Figures {
     let mut input = [0u8; READ_MOST];
-    let reading = console::read_whole(&mut file, &mut input);
-    let n = reading.count;
-    let whole = reading.whole;
-    if whole {
-        files::of_file(&input[..n], quantum)
-    } else {
-        files::refused(12)
+    match console::read_whole(&mut file, &mut input) {
+        Some(n) => files::of_file(&input[..n], quantum),
+        None => files::refused(Refusal::FileMalformed),
     }
 }
 
 // Prints a line, and answers whether it was written whole.
 fn print(rt: &HostRuntime, name: &[u8], figures: Figures) -> bool {
     let line = charge_lines::of_table(name, figures);
-    let bytes = line.bytes;
-    let len = line.len;
-    console::say(&rt.stdout(), &bytes[..len])
+    console::say(&rt.stdout(), line.as_bytes())
 }
-
-// The greatest number of a refusal, and more.
-const NUMBER_MOST: u64 = 99;
 
 fn unwritten(rt: &HostRuntime) {
     console::say(
@@ -83,12 +74,12 @@ fn unwritten(rt: &HostRuntime) {
     );
 }
 
+// The greatest number of a refusal, and more.
+const NUMBER_MOST: u64 = 99;
+
 // Says why the table in a line of the list is refused.
 fn explain(rt: &HostRuntime, line: u64, number: u64) {
-    if number == 0 {
-        return;
-    }
-    if NUMBER_MOST < number {
+    if (number == 0) | (NUMBER_MOST < number) {
         return;
     }
     console::say(&rt.stderr(), b"line ");
@@ -97,49 +88,67 @@ fn explain(rt: &HostRuntime, line: u64, number: u64) {
     console::explain(&rt.stderr(), number as u32);
 }
 
-// The lines of all tables, and their counts.
-fn all(rt: &HostRuntime, quantum: u64) {
-    let mut by_exact = counts::start();
-    let mut by_quantum = counts::start();
-    let mut by_task = counts::start();
-    let mut line: u64 = 0;
-    while line < LINES_MOST {
-        let mut name = [0u8; NAME_ROOM];
-        let read = list::next(&mut rt.stdin(), &mut name);
-        if read.over {
-            close(rt, read.failed, by_exact, by_quantum, by_task);
-            return;
+// The counts of each way of charging.
+#[derive(Clone, Copy)]
+struct Tally {
+    exact: Counts,
+    quantum: Counts,
+    task: Counts,
+}
+
+impl Tally {
+    fn start() -> Tally {
+        Tally {
+            exact: counts::start(),
+            quantum: counts::start(),
+            task: counts::start(),
         }
-        line += 1;
-        let n = read.count;
-        let figures = of_name(rt, &name[..n], quantum);
-        explain(rt, line, figures.code);
-        if !print(rt, &name[..n], figures) {
-            unwritten(rt);
-            return;
+    }
+
+    // A line more.
+    fn with(self, figures: Figures) -> Tally {
+        Tally {
+            exact: counts::add(self.exact, figures.exact),
+            quantum: counts::add(self.quantum, figures.quantum),
+            task: counts::add(self.task, figures.task),
         }
-        let exact = figures.exact;
-        let whole = figures.quantum;
-        let own = figures.task;
-        by_exact = counts::add(by_exact, exact);
-        by_quantum = counts::add(by_quantum, whole);
-        by_task = counts::add(by_task, own);
     }
 }
 
-// The counts, where the list was read to its end.
-fn close(rt: &HostRuntime, failed: bool, exact: Counts, quantum: Counts, task: Counts) {
-    if failed {
-        console::say(
-            &rt.stderr(),
-            b"charges: the list could not be read to its end\n",
-        );
-        return;
+// The lines of all tables, and their counts.
+fn all(rt: &HostRuntime, quantum: u64) {
+    let mut tally = Tally::start();
+    for before in 0..u64::MAX {
+        let mut room = [0u8; NAME_ROOM];
+        match list::next(&mut rt.stdin(), &mut room) {
+            Ok(Some(n)) => {
+                let name = &room[..n];
+                let figures = of_name(rt, name, quantum);
+                explain(rt, before + 1, figures.code);
+                if !print(rt, name, figures) {
+                    return unwritten(rt);
+                }
+                tally = tally.with(figures);
+            }
+            Ok(None) => return close(rt, tally),
+            Err(_) => return unread(rt),
+        }
     }
+}
+
+fn unread(rt: &HostRuntime) {
+    console::say(
+        &rt.stderr(),
+        b"charges: the list could not be read to its end\n",
+    );
+}
+
+// The counts, where the list was read to its end.
+fn close(rt: &HostRuntime, tally: Tally) {
     let a = console::say(&rt.stdout(), b"charge,fits,misses,none\r\n");
-    let b = console::print(&rt.stdout(), counts::line(Way::Exact, exact));
-    let c = console::print(&rt.stdout(), counts::line(Way::Quantum, quantum));
-    let d = console::print(&rt.stdout(), counts::line(Way::Task, task));
+    let b = console::print(&rt.stdout(), counts::line(Way::Exact, tally.exact));
+    let c = console::print(&rt.stdout(), counts::line(Way::Quantum, tally.quantum));
+    let d = console::print(&rt.stdout(), counts::line(Way::Task, tally.task));
     if !(a & b & c & d) {
         console::say(
             &rt.stderr(),

@@ -1,10 +1,10 @@
 // What a program reads and says: input that is whole or not used, and the line on standard error where there is no answer.
 #![tactic(auto)]
 
-ghost use Rattle.std.specs.Prelude.{◌+◌, ◌≤◌, length};
+ghost use Rattle.std.specs.Prelude.{IfSome};
 ghost use Rattle.console.specs.Counts.{IsPrefixLen};
-ghost use Rattle.text.specs.Text.{Fits};
 
+use demand::refusal::Refusal;
 use std::env::Env;
 use std::fs::File;
 use std::io::{Print, Read};
@@ -12,58 +12,32 @@ use std::rt::Files;
 use std::str;
 use text::Text;
 
-// What was read: so many bytes, and whether they are whole, that is, the input ended there or there is no room for more.
-#[derive(Clone, Copy)]
-pub struct Reading {
-    pub count: usize,
-    pub whole: bool,
-}
-
-// What one read came to: so many bytes, 0 at the end of the input, or a failure.
-#[derive(Clone, Copy)]
-struct Part {
-    count: usize,
-    failed: bool,
-}
-
-// Reads until a read answers that the input has ended, or there is no room left. A read that fails leaves a part, whatever
-// a later read would answer: a connection that was reset says so once, and then that it has ended.
-pub fn read_whole<R: Read>(input: &mut R, buf: &mut [u8]) -> Reading
-    ensures { IsPrefixLen result.count buf.new }
+// Reads until a read answers that the input has ended, or there is no room left: how many bytes. None where a read fails, whatever a later
+// read would answer: a connection that was reset says so once, and then that it has ended.
+pub fn read_whole<R: Read>(input: &mut R, buf: &mut [u8]) -> Option<usize>
+    ensures { IfSome result (λ n. IsPrefixLen n buf.new) }
 {
     let mut done = 0;
     while done < buf.len() {
-        let part = read_on(input, buf, done);
-        let more = part.count;
-        let failed = part.failed;
+        let more = input.read(&mut buf[done..]).ok()?;
         if more == 0 {
-            return Reading {
-                count: done,
-                whole: !failed,
-            };
+            break;
         }
         done += more;
     }
-    Reading {
-        count: done,
-        whole: true,
-    }
+    Some(done)
 }
 
-// One read, behind the first bytes.
-fn read_on<R: Read>(input: &mut R, buf: &mut [u8], done: usize) -> Part
-    requires { done ≤ length buf.old }
-    ensures { done + result.count ≤ length buf.old }
+// Reads standard input whole into the room lent, and hands it on; where it cannot be read to its end, a line says so in the program's name.
+pub fn with_input<F: FnOnce(&[u8])>(rt: &HostRuntime, program: &[u8], room: &mut [u8], then: F)
+    requires { F.IsAlwaysCallable then }
 {
-    match input.read(&mut buf[done..]) {
-        Ok(count) => Part {
-            count,
-            failed: false,
-        },
-        Err(_) => Part {
-            count: 0,
-            failed: true,
-        },
+    match read_whole(&mut rt.stdin(), room) {
+        Some(n) => then(&room[..n]),
+        None => {
+            say(&rt.stderr(), program);
+            say(&rt.stderr(), b": standard input could not be read to its end\n");
+        }
     }
 }
 
@@ -93,19 +67,25 @@ pub fn say_number<P: Print>(out: &P, number: u64) -> bool {
 }
 
 // Writes a text, and answers whether all of it was written.
-pub fn print<P: Print>(out: &P, text: Text) -> bool
-    requires { Fits text }
-{
-    let bytes = text.bytes;
-    let len = text.len;
-    say(out, &bytes[..len])
+pub fn print<P: Print>(out: &P, text: Text) -> bool {
+    say(out, text.as_bytes())
 }
 
 // Says on standard error why there is no verdict: the number of the refusal and its English line.
 pub fn explain<P: Print>(err: &P, number: u32) {
     say(err, b"refused ");
-    say_number(err, number as u64);
+    say_number(err, u64::from(number));
     say(err, b": ");
     print(err, text::english::line(number));
     say(err, b"\n");
+}
+
+// Writes what a program answers; a line in its name says where that could not be written whole, and where it is refused, the reason follows.
+pub fn answer(rt: &HostRuntime, bytes: &[u8], unwritten: &[u8], refusal: Option<Refusal>) {
+    if !say(&rt.stdout(), bytes) {
+        say(&rt.stderr(), unwritten);
+    }
+    if let Some(reason) = refusal {
+        explain(&rt.stderr(), reason.number());
+    }
 }

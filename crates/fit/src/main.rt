@@ -9,29 +9,17 @@ use layout::reader::FILE_MOST;
 const READ_MOST: usize = FILE_MOST + 1;
 
 fn main(rt: HostRuntime) {
-    let mut input = [0u8; READ_MOST];
-    let reading = console::read_whole(&mut rt.stdin(), &mut input);
-    let n = reading.count;
-    let whole = reading.whole;
-    if whole {
-        answer(&rt, &input[..n]);
-    } else {
-        console::say(
-            &rt.stderr(),
-            b"fit: standard input could not be read to its end\n",
-        );
-    }
+    let mut room = [0u8; READ_MOST];
+    console::with_input(&rt, b"fit", &mut room, |file| answer(&rt, file));
 }
 
 // Prints the sheet of a whole file.
 fn answer(rt: &HostRuntime, file: &[u8]) {
     let output = sheet::sheet(file);
-    let refusal = output.refusal;
-    let written = console::print(&rt.stdout(), output.text);
-    if !written {
-        console::say(&rt.stderr(), b"fit: the sheet could not be written whole\n");
-    }
-    if 0 < refusal {
-        console::explain(&rt.stderr(), refusal);
-    }
+    console::answer(
+        rt,
+        output.text.as_bytes(),
+        b"fit: the sheet could not be written whole\n",
+        output.refusal,
+    );
 }

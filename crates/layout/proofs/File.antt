@@ -11,7 +11,8 @@ use lib.ListN.{length, take, length-append}
 use lib.Seq.{take-append_seam}
 use Rattle.demand.specs.Tests.{pick}
 use Rattle.layout.specs.File.{file_most, rows_most, Entry, file_text, AllLawful, FileSays, OneTable}
-use Rattle.layout.specs.Inside.Building.{none, some, Reading, read_from, read_over, rows_at_end, outcome}
+use Rattle.std.specs.Prelude.{Some, None}
+use Rattle.layout.specs.Inside.Building.{Reading, read_from, read_over, rows_at_end, outcome}
 use Rattle.layout.specs.Inside.Steps.{is_start, columns_of}
 use Rattle.layout.specs.declared.steps.State.{State}
 use Rattle.layout.specs.declared.steps.State.TheVariants.{Broken, Head, HeadCr, Start, Name, First, Digits, RowCr}
@@ -26,7 +27,7 @@ use Rattle.text.proofs.Tests.{by}
 
 -- ---- what is accepted is a text
 
-pub never : (P : Type 0) (fs : List Entry) → none ≡ some fs → P
+pub never : (P : Type 0) (fs : List Entry) → None ≡ Some fs → P
 never P fs e =
     let z : ◌≡◌ {A = ℕ} 0 1 = cc in
     let f : ⊥ = omega arith in
@@ -63,7 +64,7 @@ Ends cols l fs = AllLawful cols fs × ((l ≡ file_text cols fs) ⊎ (l ≡ file
 module _ (cols : Columns) (bs : List ℕ) (fs : List Entry) where
   -- The last line lacked its CRLF.
   ends-short : is_start (read_from cols (read_over cols bs) crlf).st ≡ true →
-      some (read_from cols (read_over cols bs) crlf).rows ≡ some fs → Ends cols bs fs
+      Some (read_from cols (read_over cols bs) crlf).rows ≡ Some fs → Ends cols bs fs
   ends-short t e =
       let w = read_from cols (read_over cols bs) crlf in
       let q : w.rows ≡ fs = cc in
@@ -72,29 +73,29 @@ module _ (cols : Columns) (bs : List ℕ) (fs : List Entry) where
       let h = holds-start cols w.st w.rows (bs ++ crlf) t whole in
       (subst (AllLawful cols) q h.0, inl (sym (without_end (file_text cols w.rows) bs crlf h.1) ∙ ap (file_text cols) q))
 
-  ends-full : is_start (read_over cols bs).st ≡ true → some (read_over cols bs).rows ≡ some fs → Ends cols bs fs
+  ends-full : is_start (read_over cols bs).st ≡ true → Some (read_over cols bs).rows ≡ Some fs → Ends cols bs fs
   ends-full t e =
       let w = read_over cols bs in
       let q : w.rows ≡ fs = cc in
       let h = holds-start cols w.st w.rows bs t (holds cols bs) in
       (subst (AllLawful cols) q h.0, inr (sym h.1 ∙ ap (λ (x : List Entry). file_text cols x ++ crlf) q))
 
-  ends : rows_at_end cols (read_over cols bs) ≡ some fs → Ends cols bs fs
+  ends : rows_at_end cols (read_over cols bs) ≡ Some fs → Ends cols bs fs
   ends e =
-      by (λ t. is_start (read_from cols (read_over cols bs) crlf).st ≡ t → pick t (some (read_from cols (read_over cols bs) crlf).rows) (pick (is_start (read_over cols bs).st) (some (read_over cols bs).rows) none) ≡ some fs → Ends cols bs fs)
+      by (λ t. is_start (read_from cols (read_over cols bs) crlf).st ≡ t → pick t (Some (read_from cols (read_over cols bs) crlf).rows) (pick (is_start (read_over cols bs).st) (Some (read_over cols bs).rows) None) ≡ Some fs → Ends cols bs fs)
       (is_start (read_from cols (read_over cols bs) crlf).st)
       (λ _. λ t. λ x. ends-short t x)
       (λ _. λ _. λ y.
-      by (λ t. is_start (read_over cols bs).st ≡ t → pick t (some (read_over cols bs).rows) none ≡ some fs → Ends cols bs fs) (is_start (read_over cols bs).st)
+      by (λ t. is_start (read_over cols bs).st ≡ t → pick t (Some (read_over cols bs).rows) None ≡ Some fs → Ends cols bs fs) (is_start (read_over cols bs).st)
       (λ _. λ t. λ x. ends-full t x)
       (λ _. λ t. λ x. never _ fs x)
       refl y)
       refl e
 
-pub sound : (bs : List ℕ) (fs : List Entry) → outcome bs ≡ some fs → FileSays bs fs
+pub sound : (bs : List ℕ) (fs : List Entry) → outcome bs ≡ Some fs → FileSays bs fs
 sound bs fs e =
     let cols = columns_of bs in
-    by (λ t. ltb file_most (length bs) ≡ t → pick t none (rows_at_end cols (read_over cols bs)) ≡ some fs → FileSays bs fs) (ltb file_most (length bs))
+    by (λ t. ltb file_most (length bs) ≡ t → pick t None (rows_at_end cols (read_over cols bs)) ≡ Some fs → FileSays bs fs) (ltb file_most (length bs))
     (λ _. λ t. λ x. never _ fs x)
     (λ _. λ t. λ x.
     let w : Ends cols bs fs = ends cols bs fs x in
@@ -104,10 +105,10 @@ sound bs fs e =
 -- ---- a text is accepted
 
 accepted : (cols : Columns) (bs : List ℕ) (es : List Entry) → AllLawful cols es →
-    (bs ≡ file_text cols es) ⊎ (bs ≡ file_text cols es ++ crlf) → rows_at_end cols (read_over cols bs) ≡ some es
+    (bs ≡ file_text cols es) ⊎ (bs ≡ file_text cols es ++ crlf) → rows_at_end cols (read_over cols bs) ≡ Some es
 accepted cols bs es s (inl e) =
     ap (λ (x : List ℕ). rows_at_end cols (read_over cols x)) e
-    ∙ ap (λ (w : Reading). pick (is_start w.st) (some w.rows) (pick (is_start (read_over cols (file_text cols es)).st) (some (read_over cols (file_text cols es)).rows) none)) (read-text cols es s)
+    ∙ ap (λ (w : Reading). pick (is_start w.st) (Some w.rows) (pick (is_start (read_over cols (file_text cols es)).st) (Some (read_over cols (file_text cols es)).rows) None)) (read-text cols es s)
 accepted cols bs es s (inr e) =
     ap (λ (x : List ℕ). rows_at_end cols (read_over cols x)) e
     ∙ ap (rows_at_end cols) (read-append cols (at (Head 0) []) (file_text cols es) crlf ∙ read-text cols es s)
@@ -121,9 +122,9 @@ told Three bs (x ∷ es) (inr e) = ap columns_of e
 told Four bs es (inl e) = ap columns_of e
 told Four bs es (inr e) = ap columns_of e
 
-pub complete : (bs : List ℕ) (es : List Entry) → FileSays bs es → outcome bs ≡ some es
+pub complete : (bs : List ℕ) (es : List Entry) → FileSays bs es → outcome bs ≡ Some es
 complete bs es s =
-    ap (λ (t : Bool). pick t none (rows_at_end (columns_of bs) (read_over (columns_of bs) bs))) (le-ltb file_most (length bs) s.small)
+    ap (λ (t : Bool). pick t None (rows_at_end (columns_of bs) (read_over (columns_of bs) bs))) (le-ltb file_most (length bs) s.small)
     ∙ ap (λ (x : Columns). rows_at_end x (read_over x bs)) (told s.cols bs es s.written)
     ∙ accepted s.cols bs es s.lawful s.written
 
@@ -131,8 +132,8 @@ complete bs es s =
 
 pub says-unique : OneTable
 says-unique bs es fs s t =
-    let a : outcome bs ≡ some es = complete bs es s in
-    let b : outcome bs ≡ some fs = complete bs fs t in
+    let a : outcome bs ≡ Some es = complete bs es s in
+    let b : outcome bs ≡ Some fs = complete bs fs t in
     cc
 
 -- ---- and a file says 408 rows at most

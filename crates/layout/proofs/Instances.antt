@@ -1,14 +1,16 @@
 -- Kinds may be mixed, and each keeps its order (01, "File and printed line"): no sheet shows the order of rows, so it is said here in numbers.
 --   mixed_file   == a file of handlers 5/6 and 7/8 and tasks 1/20 with deadline 2 and 3/4 with deadline 4, by turns
-use mathlib.Core.Bool.{true, false}
+use mathlib.Core.Bool.{false}
 use mathlib.Core.List.{List, [], ◌∷◌, ◌++◌}
 use mathlib.Core.Logic.{inl, inr}
-use mathlib.Core.Path.{◌≡◌, refl, ap}
+use mathlib.Core.Path.{◌≡◌, refl}
 use native.Mathlib.Omega.{arith}
 use Prim.Native.Nat.{ℕ}
 use lib.ListN.{take}
 use Rattle.demand.specs.declared.table.Kind.TheVariants.{Task, Handler}
 use Rattle.layout.specs.File.{Entry, entry, FileSays}
+use Rattle.std.specs.Prelude.{Result, Ok}
+use Rattle.demand.specs.declared.refusal.Refusal.{Refusal}
 use Rattle.layout.specs.Table.{ReadSays, table_of}
 use Rattle.layout.specs.declared.reader.Table.{Table}
 use Rattle.layout.specs.declared.steps.Last.TheVariants.{Empty, Number}
@@ -37,17 +39,19 @@ says = record {
   written = inr refl;
 }
 
-only : (t : Table) → ReadSays mixed_file t → t ≡ table_of rows
+only : (r : Result Table Refusal) → ReadSays mixed_file r → r ≡ Ok (table_of rows)
 unfolding ReadSays
-only t read = read-unique mixed_file t (table_of rows) read (inl (rows, says, refl))
+only r read = read-unique mixed_file r (Ok (table_of rows)) read (inl (rows, says, refl))
 
 -- The two lists of what is read, and how long they are.
-pub tasks-in-order : (t : Table) → ReadSays mixed_file t → (take 6 t.tasks.numbers ≡ 1 ∷ 20 ∷ 2 ∷ 3 ∷ 4 ∷ 4 ∷ []) × (t.tasks.len ≡ 6)
-tasks-in-order t read = (ap (λ (u : Table). take 6 u.tasks.numbers) (only t read), ap (λ (u : Table). u.tasks.len) (only t read))
+pub tasks-in-order : (r : Result Table Refusal) → ReadSays mixed_file r
+    → (t : Table) × (r ≡ Ok t) × (take 6 t.tasks.numbers ≡ 1 ∷ 20 ∷ 2 ∷ 3 ∷ 4 ∷ 4 ∷ []) × (t.tasks.len ≡ 6)
+tasks-in-order r read = (table_of rows, only r read, refl, refl)
 
-pub handlers-in-order : (t : Table) → ReadSays mixed_file t → (take 4 t.handlers.numbers ≡ 5 ∷ 6 ∷ 7 ∷ 8 ∷ []) × (t.handlers.len ≡ 4)
-handlers-in-order t read = (ap (λ (u : Table). take 4 u.handlers.numbers) (only t read), ap (λ (u : Table). u.handlers.len) (only t read))
+pub handlers-in-order : (r : Result Table Refusal) → ReadSays mixed_file r
+    → (t : Table) × (r ≡ Ok t) × (take 4 t.handlers.numbers ≡ 5 ∷ 6 ∷ 7 ∷ 8 ∷ []) × (t.handlers.len ≡ 4)
+handlers-in-order r read = (table_of rows, only r read, refl, refl)
 
 -- It is read, and no handler of it has a deadline.
-pub is_read : (t : Table) → ReadSays mixed_file t → (t.ok ≡ true) × (t.misplaced ≡ false)
-is_read t read = (ap (λ (u : Table). u.ok) (only t read), ap (λ (u : Table). u.misplaced) (only t read))
+pub is_read : (r : Result Table Refusal) → ReadSays mixed_file r → (t : Table) × (r ≡ Ok t) × (t.misplaced ≡ false)
+is_read r read = (table_of rows, only r read, refl)

@@ -1,14 +1,25 @@
 -- The reader's answer: the table built is that of the rows that the file says, there is no other, and its lists can be lent.
-use mathlib.Core.List.{List, []}
-use mathlib.Core.Logic.{inl, inr}
+use mathlib.Core.Bool.{true, false}
+use mathlib.Core.List.{List}
+use mathlib.Core.Logic.{◌⊎◌, inl, inr}
 use mathlib.Core.Path.{◌≡◌, refl, sym, ap, subst, ◌∙◌}
 use native.Mathlib.Omega.{arith}
-use Prim.Native.Nat.{ℕ, ◌-◌, ◌≤◌}
-use lib.ListN.{length, take, replicate, length-append}
+use Prim.Native.Nat.{ℕ, zero, suc, ◌-◌, ◌≤◌, ◌<◌}
+use lib.Dec.{eqb, eqb-suc-zero}
+use Rattle.demand.specs.Numbered.{number_of}
+use Rattle.demand.specs.Refusals.{table_refusal}
+use Rattle.demand.proofs.Numbered.{number-pos}
+use Rattle.demand.specs.Tests.{pick}
+use lib.ListN.{length, replicate, length-append}
 use lib.Seq.{take-append_seam}
 use Rattle.demand.specs.declared.table.Kind.TheVariants.{Task, Handler}
-use Rattle.layout.specs.Inside.Building.{Outcome, none, some, outcome}
-use Rattle.layout.specs.Table.{list_of, flat_most, flat_of, table_of, ReadSays, OneReading}
+use Rattle.std.specs.Prelude.{Option, Some, None, Result, Ok, Err}
+use Rattle.demand.specs.declared.refusal.Refusal.{Refusal}
+use Rattle.demand.specs.declared.refusal.Refusal.TheVariants.{FileMalformed, DeadlineOutOfRange}
+use Rattle.layout.specs.File.{Entry, FileSays, SaysNothing}
+use Rattle.layout.specs.Refusals.{refusal_in, Misplaces, TableIn}
+use Rattle.layout.specs.Inside.Building.{outcome}
+use Rattle.layout.specs.Table.{list_of, misplaced, flat_most, flat_of, listed, table_of, ReadSays, OneReading}
 use Rattle.layout.specs.declared.reader.Flat.{Flat}
 use Rattle.layout.specs.declared.reader.Table.{Table}
 use Rattle.layout.proofs.File.{never, sound, complete, says-unique}
@@ -16,25 +27,22 @@ use Rattle.layout.proofs.Inside.Builds.{table_for}
 
 -- ---- the table built is the answer
 
-answer-of : (bs : List ℕ) (o : Outcome) → outcome bs ≡ o → ReadSays bs (table_for o)
+answer-of : (bs : List ℕ) (o : Option (List Entry)) → outcome bs ≡ o → ReadSays bs (table_for o)
 unfolding ReadSays
-answer-of bs none e = inr ((λ es s. never ⊥ es (sym e ∙ complete bs es s)), refl)
-answer-of bs (some es) e = inl (es, sound bs es e, refl)
+answer-of bs None e = inr ((λ es s. never ⊥ es (sym e ∙ complete bs es s)), refl)
+answer-of bs (Some es) e = inl (es, sound bs es e, refl)
 
-pub read-says : (bs : List ℕ) (t : Table) → t ≡ table_for (outcome bs) → ReadSays bs t
-read-says bs t e = subst (ReadSays bs) (sym e) (answer-of bs (outcome bs) refl)
+pub read-says : (bs : List ℕ) (r : Result Table Refusal) → r ≡ table_for (outcome bs) → ReadSays bs r
+read-says bs r e = subst (ReadSays bs) (sym e) (answer-of bs (outcome bs) refl)
 
 pub read-unique : OneReading
 unfolding ReadSays
-read-unique bs t u (inl a) (inl b) = a.2 ∙ ap table_of (says-unique bs a.0 b.0 a.1 b.1) ∙ sym b.2
+read-unique bs t u (inl a) (inl b) = a.2 ∙ ap (λ (es : List Entry). Ok (table_of es)) (says-unique bs a.0 b.0 a.1 b.1) ∙ sym b.2
 read-unique bs t u (inl a) (inr b) = absurd (b.0 a.0 a.1)
 read-unique bs t u (inr a) (inl b) = absurd (a.0 b.0 b.1)
 read-unique bs t u (inr a) (inr b) = a.1 ∙ sym b.1
 
 -- ---- a flat list, and the numbers in it
-
-abbrev pub listed : Flat → List ℕ
-listed f = take f.len f.numbers
 
 pub flat-listed : (s : List ℕ) → listed (flat_of s) ≡ s
 flat-listed s = take-append_seam s (replicate (flat_most - length s) 0)
@@ -49,7 +57,84 @@ flat-counted s = (rw length-append (omega arith), ap length (sym (flat-listed s)
 abbrev BothCounted : Table → Type 0
 BothCounted t = Counted t.tasks × Counted t.handlers
 
-pub read-counted : (bs : List ℕ) (t : Table) → ReadSays bs t → BothCounted t
+pub read-counted : (bs : List ℕ) (t : Table) → ReadSays bs (Ok t) → BothCounted t
 unfolding ReadSays
-read-counted bs t (inl r) = subst BothCounted (sym r.2) (flat-counted (list_of Task r.0), flat-counted (list_of Handler r.0))
-read-counted bs t (inr r) = subst BothCounted (sym r.1) (flat-counted [], flat-counted [])
+read-counted bs t (inl r) =
+    let told : t ≡ table_of r.0 = cc in
+    subst BothCounted (sym told) (flat-counted (list_of Task r.0), flat-counted (list_of Handler r.0))
+read-counted bs t (inr r) = absurd (cc)
+
+-- ---- the table of a file
+
+-- It is told whole, and its lists can be lent.
+pub record Lists (bs : List ℕ) (t : Table) : Type 0 where
+  pub rows : List Entry
+  pub says : FileSays bs rows
+  pub placed : misplaced rows ≡ false
+  pub tasks : listed t.tasks ≡ list_of Task rows
+  pub handlers : listed t.handlers ≡ list_of Handler rows
+
+pub table-lists : (bs : List ℕ) (t : Table) → TableIn bs (Ok t) → Lists bs t
+unfolding TableIn
+table-lists bs t told =
+    record {
+      rows = told.0;
+      says = told.1.says;
+      placed = told.1.placed;
+      tasks = ap (λ (u : Table). listed u.tasks) told.2 ∙ flat-listed (list_of Task told.0);
+      handlers = ap (λ (u : Table). listed u.handlers) told.2 ∙ flat-listed (list_of Handler told.0);
+    }
+
+pub table-refused : (bs : List ℕ) (e : Refusal) → TableIn bs (Err e) → Misplaces bs e ⊎ (SaysNothing bs × (e ≡ FileMalformed))
+unfolding TableIn
+table-refused bs e told = told
+
+-- From what is read.
+pub table-in-broken : (bs : List ℕ) (e : Refusal) → ReadSays bs (Err e) → TableIn bs (Err e)
+unfolding TableIn ReadSays
+table-in-broken bs e (inl r) = absurd (cc)
+table-in-broken bs e (inr r) = inr (r.0, cc)
+
+pub table-in-placed : (bs : List ℕ) (t : Table) → ReadSays bs (Ok t) → t.misplaced ≡ false → TableIn bs (Ok t)
+unfolding TableIn ReadSays
+table-in-placed bs t (inl r) e =
+    let is : t ≡ table_of r.0 = cc in
+    (r.0, record { says = r.1; placed = sym (ap (λ (u : Table). u.misplaced) is) ∙ e }, is)
+table-in-placed bs t (inr r) e = absurd (cc)
+
+-- Where a handler has a deadline, the table's own refusal comes before 13.
+table-in-misplaced : (bs : List ℕ) (t : Table) (e : Refusal) → ReadSays bs (Ok t) → t.misplaced ≡ true
+    → number_of e ≡ refusal_in true (listed t.tasks) (listed t.handlers) → TableIn bs (Err e)
+unfolding TableIn ReadSays
+table-in-misplaced bs t e (inl r) m n =
+    let is : t ≡ table_of r.0 = cc in
+    inl (record {
+      rows = r.0;
+      says = r.1;
+      placed = sym (ap (λ (u : Table). u.misplaced) is) ∙ m;
+      number =
+          n ∙ ap (λ (u : Table). refusal_in true (listed u.tasks) (listed u.handlers)) is
+          ∙ ap (λ (s : List ℕ). refusal_in true s (listed (flat_of (list_of Handler r.0)))) (flat-listed (list_of Task r.0))
+          ∙ ap (λ (s : List ℕ). refusal_in true (list_of Task r.0) s) (flat-listed (list_of Handler r.0));
+    })
+table-in-misplaced bs t e (inr r) m n = absurd (cc)
+
+-- the first of the two
+own-first : (k n : ℕ) → 0 < n → n ≡ k → n ≡ pick (eqb k 0) 13 k
+own-first zero n h e = absurd (omega arith)
+own-first (suc k) n h e = rw (eqb-suc-zero k) e
+
+own-none : (k : ℕ) → 0 ≡ k → 13 ≡ pick (eqb k 0) 13 k
+own-none zero e = refl
+own-none (suc k) e = absurd (omega arith)
+
+module _ (bs : List ℕ) (t : Table) (read : ReadSays bs (Ok t)) (m : t.misplaced ≡ true) (ts hs : List ℕ)
+    (tasks : ts ≡ listed t.tasks) (handlers : hs ≡ listed t.handlers) where
+  lent : table_refusal ts hs ≡ table_refusal (listed t.tasks) (listed t.handlers)
+  lent = ap (λ (s : List ℕ). table_refusal s hs) tasks ∙ ap (λ (s : List ℕ). table_refusal (listed t.tasks) s) handlers
+
+  pub misplaced-own : (e : Refusal) → number_of e ≡ table_refusal ts hs → TableIn bs (Err e)
+  misplaced-own e n = table-in-misplaced bs t e read m (own-first _ (number_of e) (number-pos e) (n ∙ lent))
+
+  pub misplaced-13 : 0 ≡ table_refusal ts hs → TableIn bs (Err DeadlineOutOfRange)
+  misplaced-13 n = table-in-misplaced bs t DeadlineOutOfRange read m (own-none _ (n ∙ lent))

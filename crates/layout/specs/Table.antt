@@ -4,12 +4,15 @@
 --   list_of kind es      == the flat list of the rows of this kind, in their order
 --   flat_most            == the most numbers of a list: three for a row
 --   flat_of s            == the list s with zeros behind, up to that many places, and its length
+--   listed f             == the numbers in the list f
 --   misplaced es        == some handler of es has a deadline
 --   table_of es          == the table of the rows es
---   bare_table ok        == a table without rows; broken_table is the answer to a broken file
---   ReadSays bs t       t is the reader's answer to the file bs: the table of the rows that it says, or broken where it says none
+--   bare_table           == a table without rows
+--   ReadSays bs r       r is the reader's answer to the file bs: the table of the rows that it says, or 12 where it says none
 --   OneReading          a file has one such answer and no other: a statement about ReadSays
-use Rattle.std.specs.Prelude.{Bool, true, false, ◌||◌, List, [], ◌∷◌, ◌++◌, ◌⊎◌, ◌≡◌, ℕ, ◌-◌, ◌*◌, length, replicate}
+use Rattle.std.specs.Prelude.{Bool, true, false, ◌||◌, List, [], ◌∷◌, ◌++◌, ◌⊎◌, ◌≡◌, ℕ, ◌-◌, ◌*◌, length, replicate, take, Result, Ok, Err}
+use Rattle.demand.specs.declared.refusal.Refusal.{Refusal}
+use Rattle.demand.specs.declared.refusal.Refusal.TheVariants.{FileMalformed}
 use Rattle.demand.specs.declared.table.Kind.{Kind}
 use Rattle.demand.specs.declared.table.Kind.TheVariants.{Task, Handler}
 use Rattle.layout.specs.File.{Entry, entry, rows_most, FileSays, SaysNothing}
@@ -52,17 +55,17 @@ flat_most = 3 * rows_most
 abbrev pub flat_of : List ℕ → Flat
 flat_of s = record { numbers = s ++ replicate (flat_most - length s) 0; len = length s }
 
+abbrev pub listed : Flat → List ℕ
+listed f = take f.len f.numbers
+
 abbrev pub table_of : List Entry → Table
-table_of es = record { ok = true; misplaced = misplaced es; tasks = flat_of (list_of Task es); handlers = flat_of (list_of Handler es) }
+table_of es = record { misplaced = misplaced es; tasks = flat_of (list_of Task es); handlers = flat_of (list_of Handler es) }
 
-abbrev pub bare_table : Bool → Table
-bare_table ok = record { ok = ok; misplaced = false; tasks = flat_of []; handlers = flat_of [] }
+abbrev pub bare_table : Table
+bare_table = table_of []
 
-abbrev pub broken_table : Table
-broken_table = bare_table false
-
-unfoldable pub ReadSays : List ℕ → Table → Type 0
-ReadSays bs t = ((es : List Entry) × FileSays bs es × (t ≡ table_of es)) ⊎ (SaysNothing bs × (t ≡ broken_table))
+unfoldable pub ReadSays : List ℕ → Result Table Refusal → Type 0
+ReadSays bs r = ((es : List Entry) × FileSays bs es × (r ≡ Ok (table_of es))) ⊎ (SaysNothing bs × (r ≡ Err FileMalformed))
 
 abbrev pub OneReading : Type 0
-OneReading = (bs : List ℕ) (t u : Table) → ReadSays bs t → ReadSays bs u → t ≡ u
+OneReading = (bs : List ℕ) (q r : Result Table Refusal) → ReadSays bs q → ReadSays bs r → q ≡ r

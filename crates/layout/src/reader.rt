@@ -3,11 +3,14 @@ ghost use Rattle.std.specs.Prelude.{◌≡◌, ◌<◌};
 ghost use Rattle.layout.specs.File.{entry};
 ghost use Rattle.layout.specs.Inside.Building.{Room, longer, pushed, fed, table_at_end};
 ghost use Rattle.layout.specs.Inside.Steps.{columns_of};
-ghost use Rattle.layout.specs.Table.{deadline_of, is_number, flat_most, bare_table, ReadSays};
+ghost use Rattle.layout.specs.Refusals.{TableIn};
+ghost use Rattle.layout.specs.Table.{deadline_of, is_number, flat_most, listed, bare_table, ReadSays};
 
 use crate::steps::{Last, State};
 use crate::words::Columns;
 use crate::{steps, words};
+use demand::refusal;
+use demand::refusal::Refusal;
 use demand::table::Kind;
 
 // The most bytes of a file.
@@ -26,30 +29,49 @@ pub struct Flat {
     pub len: usize,
 }
 
-// What a file says, and whether a handler has a deadline in it; or that it breaks the layout.
+impl Flat {
+    // The numbers in it.
+    pub fn list(&self) -> &[u32]
+        ensures { result.now ≡ listed self.now }
+    {
+        &self.numbers[..self.len.min(FLAT_MOST)]
+    }
+}
+
+// What a file says, and whether a handler has a deadline in it.
 #[derive(Clone, Copy)]
 pub struct Table {
-    pub ok: bool,
     pub misplaced: bool,
     pub tasks: Flat,
     pub handlers: Flat,
 }
 
-// A table without rows, of a file that is read or of a broken one.
-fn bare(ok: bool) -> Table
-    ensures { result ≡ bare_table ok }
+impl Table {
+    pub fn tasks(&self) -> &[u32]
+        ensures { result.now ≡ listed self.now.tasks }
+    {
+        self.tasks.list()
+    }
+
+    pub fn handlers(&self) -> &[u32]
+        ensures { result.now ≡ listed self.now.handlers }
+    {
+        self.handlers.list()
+    }
+}
+
+// A table without rows.
+fn bare() -> Table
+    ensures { result ≡ bare_table }
 {
+    let rows = Flat {
+        numbers: [0; FLAT_MOST],
+        len: 0,
+    };
     Table {
-        ok,
         misplaced: false,
-        tasks: Flat {
-            numbers: [0; FLAT_MOST],
-            len: 0,
-        },
-        handlers: Flat {
-            numbers: [0; FLAT_MOST],
-            len: 0,
-        },
+        tasks: rows,
+        handlers: rows,
     }
 }
 
@@ -78,11 +100,7 @@ fn deadline_of(period: u32, last: Last) -> u32
 fn is_number(last: Last) -> bool
     ensures { result ≡ is_number last }
 {
-    match last {
-        Last::NoField => false,
-        Last::Empty => false,
-        Last::Number(_) => true,
-    }
+    matches!(last, Last::Number(_))
 }
 
 // One row more.
@@ -94,7 +112,6 @@ fn push(t: Table, kind: Kind, cost: u32, period: u32, last: Last) -> Table
     let handlers = t.handlers;
     match kind {
         Kind::Task => Table {
-            ok: t.ok,
             misplaced: t.misplaced,
             tasks: with_number(
                 with_number(with_number(tasks, cost), period),
@@ -103,7 +120,6 @@ fn push(t: Table, kind: Kind, cost: u32, period: u32, last: Last) -> Table
             handlers,
         },
         Kind::Handler => Table {
-            ok: t.ok,
             misplaced: is_number(last) | t.misplaced,
             tasks,
             handlers: with_number(with_number(handlers, cost), period),
@@ -127,18 +143,18 @@ fn feed(t: Table, st: State, b: u8) -> Table
 }
 
 // The table at the end of the file: a last line that lacks its CRLF is read as if it had it.
-fn close(columns: Columns, t: Table, st: State) -> Table
+fn close(columns: Columns, t: Table, st: State) -> Result<Table, Refusal>
     requires { Room t }
     ensures { result ≡ table_at_end columns t st }
 {
     let cr = steps::step(columns, st, b'\r');
     let lf = steps::step(columns, cr, b'\n');
     if steps::is_start(lf) {
-        feed(t, cr, b'\n')
+        Ok(feed(t, cr, b'\n'))
     } else if steps::is_start(st) {
-        t
+        Ok(t)
     } else {
-        bare(false)
+        Err(Refusal::FileMalformed)
     }
 }
 
@@ -146,30 +162,39 @@ fn close(columns: Columns, t: Table, st: State) -> Table
 fn columns_of(bytes: &[u8]) -> Columns
     ensures { result ≡ columns_of bytes.now }
 {
-    if words::THREE_LEN < bytes.len() {
-        if bytes[words::THREE_LEN] == b',' {
-            return Columns::Four;
-        }
+    let behind = words::header(Columns::Three).len();
+    if text::byte_at(bytes, behind) == b',' {
+        Columns::Four
+    } else {
+        Columns::Three
     }
-    Columns::Three
 }
 
-// Reads a whole file: the table of the rows that it says, or the broken table where it breaks the layout.
-pub fn read(bytes: &[u8]) -> Table
+// Reads a whole file: the table of the rows that it says, or the refusal where it breaks the layout.
+pub fn read(bytes: &[u8]) -> Result<Table, Refusal>
     ensures { ReadSays bytes.now result }
 {
     if FILE_MOST < bytes.len() {
-        return bare(false);
+        return Err(Refusal::FileMalformed);
     }
     let columns = columns_of(bytes);
-    let mut t = bare(true);
+    let mut t = bare();
     let mut st = State::Head(0);
-    let mut i: usize = 0;
-    while i < bytes.len() {
-        let b = bytes[i];
-        t = feed(t, st, b);
-        st = steps::step(columns, st, b);
-        i += 1;
+    for b in bytes {
+        t = feed(t, st, *b);
+        st = steps::step(columns, st, *b);
     }
     close(columns, t, st)
+}
+
+// The table of a file, where no handler in it has a deadline; one that has is refused by 13, unless the table is refused before.
+pub fn table_in(bytes: &[u8]) -> Result<Table, Refusal>
+    ensures { TableIn bytes.now result }
+{
+    let table = read(bytes)?;
+    if table.misplaced {
+        refusal::of_table(table.tasks(), table.handlers())?;
+        return Err(Refusal::DeadlineOutOfRange);
+    }
+    Ok(table)
 }

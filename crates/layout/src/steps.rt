@@ -53,8 +53,9 @@ pub enum State {
 fn in_head(columns: Columns, k: usize, b: u8) -> State
     ensures { result ≡ after_byte columns (State.Head k) b }
 {
-    if k < words::header_len(columns) {
-        if b == words::header_byte(columns, k) {
+    let header = words::header(columns);
+    if k < header.len() {
+        if b == header[k] {
             State::Head(k + 1)
         } else {
             State::Broken
@@ -92,8 +93,9 @@ fn at_start(b: u8) -> State
 fn in_name(kind: Kind, k: usize, b: u8) -> State
     ensures { Leads (State.Name kind k) b result }
 {
-    if k < words::name_len(kind) {
-        if b == words::letter(kind, k) {
+    let name = words::name(kind);
+    if k < name.len() {
+        if b == name[k] {
             State::Name(kind, k + 1)
         } else {
             State::Broken
@@ -181,7 +183,7 @@ fn in_first(place: Place, b: u8) -> State
 fn in_digits(columns: Columns, place: Place, v: u32, b: u8) -> State
     ensures { result ≡ after_byte columns (State.Digits place v) b }
 {
-    let so_far = v as u64;
+    let so_far = u64::from(v);
     if b == behind(columns, place) {
         after(columns, place, v)
     } else if digits::continues(NUMBER_LIMIT, so_far, b) {
@@ -211,8 +213,5 @@ pub fn step(columns: Columns, st: State, b: u8) -> State
 pub fn is_start(st: State) -> bool
     ensures { result ≡ is_start st }
 {
-    match st {
-        State::Start => true,
-        _ => false,
-    }
+    matches!(st, State::Start)
 }

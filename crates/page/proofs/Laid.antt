@@ -2,13 +2,13 @@
 use mathlib.Core.Bool.{Bool, true, false, ◌&&◌}
 use mathlib.Core.List.{List, [], ◌++◌, append_assoc}
 use mathlib.Core.Path.{◌≡◌, sym, ap, ◌∙◌}
-use native.Mathlib.Numerals.{add-one}
 use native.Mathlib.Omega.{arith}
 use borrow.Author.Tests.{le-leb, lt-leb}
 use Prim.Native.Nat.{ℕ, ◌+◌, ◌-◌, ◌≤◌, ◌<◌}
 use lib.Dec.{leb}
-use lib.ListN.{length, length-append, get_or, set, take, drop}
-use lib.Seq.{paste, paste-zero, paste-suc, length-paste, take-paste, drop-paste, drop-drop, take-length}
+use lib.ListN.{length, length-append, take, drop}
+use lib.Seq.{paste, paste-zero, length-paste, take-paste, drop-paste, drop-drop, take-length, sets-eq}
+use Rattle.std.proofs.lemmas.List.Edits.{sets}
 use Rattle.page.specs.Laid.{room, end_of, laid}
 
 -- Where there is room, all bytes are laid;
@@ -37,14 +37,6 @@ module _ (page bs : List ℕ) (at : ℕ) where
   too_long a h =
       no_room
       (ap (λ (b : Bool). b && leb (length bs) (length page - at)) (le-leb at (length page) a) ∙ lt-leb (length bs) (length page - at) h)
-
--- A turn of the loop, from i bytes to i + 1.
-pub lay-turn : (page bs out : List ℕ) (at i : ℕ) → at + length bs ≤ length page → i < length bs → out ≡ paste page at bs i
-    → set out (at + i) (get_or bs i 0) ≡ paste page at bs (i + 1)
-lay-turn page bs out at i fits h e =
-    ap (λ (xs : List ℕ). set xs (at + i) (get_or bs i 0)) e
-    ∙ paste-suc page at bs i 0 (omega arith) h
-    ∙ ap (λ (n : ℕ). paste page at bs n) (sym (add-one i))
 
 -- ---- what is laid behind what
 
@@ -84,6 +76,21 @@ module _ (page xs ys : List ℕ) (at : ℕ) (fits : at + (length xs + length ys)
 pub laid-length : (page bs : List ℕ) (at : ℕ) → at + length bs ≤ length page → length (laid page at bs) ≡ length page
 laid-length page bs at fits = ap length (laid-room page bs at fits) ∙ length-paste page at bs (length bs) fits (omega arith)
 
+-- Bytes that are laid where others end stand behind them.
+pub lay-behind : (start : List ℕ) (at : ℕ) (xs ys page : List ℕ) (end : ℕ) → at + (length xs + length ys) ≤ length start
+    → end ≡ at + length xs → page ≡ laid start at xs → (r : ℕ) (p : List ℕ)
+    → (r ≡ end_of (length page) end (length ys)) × (p ≡ laid page end ys) → (r ≡ at + length (xs ++ ys)) × (p ≡ laid start at (xs ++ ys))
+lay-behind start at xs ys page end fits ends is r p (er, ep) =
+    let wide : length page ≡ length start = ap length is ∙ laid-length start xs at (omega arith) in
+    let last : r ≡ end + length ys = er ∙ end-room page ys end (omega (arith, wide)) in (
+      omega (arith, last, length-append xs ys),
+      ep ∙ ap (λ (n : ℕ). laid page n ys) ends ∙ ap (λ (z : List ℕ). laid z (at + length xs) ys) is ∙ laid-append start xs ys at fits,
+    )
+
 -- Nothing laid leaves it as it is.
 pub laid-nothing : (page : List ℕ) (at : ℕ) → at ≤ length page → laid page at [] ≡ page
 laid-nothing page at fits = laid-room page [] at (omega arith) ∙ sym (paste-zero page at [])
+
+-- Where there is room, one byte is stored after the other.
+pub laid-sets : (page bs : List ℕ) (at : ℕ) → at + length bs ≤ length page → laid page at bs ≡ sets page at bs
+laid-sets page bs at fits = laid-room page bs at fits ∙ ap (λ (xs : List ℕ). take at page ++ xs ++ drop (at + length bs) page) (take-length bs) ∙ sym (sets-eq bs page at fits)

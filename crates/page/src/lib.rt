@@ -9,18 +9,13 @@ pub fn lay(page: &mut [u8], at: usize, bytes: &[u8]) -> usize
     ensures { (result ≡ end_of (length page.old) at (length bytes.now)) ×
         (page.new ≡ laid page.old at bytes.now) }
 {
-    let room = page.len();
     let n = bytes.len();
-    if room < at {
+    if page.len() < at {
         return at;
     }
-    if room - at < n {
+    if page.len() - at < n {
         return at;
     }
-    let mut i = 0;
-    while i < n {
-        page[at + i] = bytes[i];
-        i += 1;
-    }
+    page[at..at + n].copy_from_slice(bytes);
     at + n
 }

@@ -1,70 +1,100 @@
--- Bytes laid over a page, one text behind the other.
-use mathlib.Core.List.{List, [], ◌∷◌, ◌++◌}
-use mathlib.Core.Path.{◌≡◌, sym, ap, ◌∙◌}
-use native.Mathlib.Nat.{add-zero}
-use native.Mathlib.Numerals.{add-one}
+-- Lines laid over a page, one behind the other.
+use mathlib.Core.List.{List, ◌++◌}
+use mathlib.Core.Path.{◌≡◌, refl, sym, ap, ◌∙◌}
+use native.Mathlib.Nat.{zero-add}
 use native.Mathlib.Omega.{arith}
-use Prim.Native.Nat.{ℕ, suc, ◌+◌, ◌-◌, ◌≤◌, ◌<◌}
-use lib.ListN.{length, set, get_or, take, replicate, length-append, length-replicate}
-use lib.Seq.{take-append_seam, take-suc, length-take-le, sets-eq}
+use Prim.Native.Nat.{ℕ, ◌+◌, ◌*◌, ◌≤◌, ◌<◌}
+use lib.ListN.{length, take, get_or, length-append}
+use lib.Seq.{take-append_seam, sets-eq}
+use Rattle.std.specs.Prelude.{Result, Ok, Err, Some, None}
+use Rattle.std.specs.Result.{result_err}
+use Rattle.demand.specs.Limits.{tasks_most}
+use Rattle.demand.specs.Numbered.{number_of}
+use Rattle.demand.specs.declared.refusal.Refusal.{Refusal}
+use Rattle.priority_sheet.specs.declared.Responses.{Responses}
+use Rattle.page.specs.Laid as over
+use Rattle.page.specs.Laid.{end_of}
+use Rattle.page.proofs.Laid.{end-room, lay-behind, laid-nothing, laid-length, laid-sets}
+use Rattle.priority_sheet.specs.Printed.{heading, task_line, task_lines, refused_line, line_most, body_of, printed}
 use Rattle.priority_sheet.specs.Whole.{laid, page_most}
-use Rattle.text.specs.Text.{text_most, text_of}
+use Rattle.priority_sheet.proofs.Printed.{task-line-most, task-lines-most, task-lines-next, refused-line-most}
+use Rattle.text.specs.Ascii.{crlf}
+use Rattle.text.specs.Text.{text_of}
 use Rattle.text.specs.declared.Text.{Text}
-
--- Behind what is laid more is laid.
-pub laid_more : (page : List ℕ) (at : ℕ) (bs cs : List ℕ) → laid (laid page at bs) (at + length bs) cs ≡ laid page at (bs ++ cs)
-laid_more page at [] cs = ap (λ (k : ℕ). laid page k cs) (add-zero at)
-laid_more page at (b ∷ bs) cs =
-    let place : at + suc (length bs) ≡ suc at + length bs = omega arith in
-    ap (λ (k : ℕ). laid (laid (set page at b) (suc at) bs) k cs) place ∙ laid_more (set page at b) (suc at) bs cs
-
--- One byte more of a list.
-pub laid_next : (page : List ℕ) (at : ℕ) (bytes : List ℕ) (i : ℕ) → i < length bytes
-    → set (laid page at (take i bytes)) (at + i) (get_or bytes i 0) ≡ laid page at (take (i + 1) bytes)
-laid_next page at bytes i h =
-    let long : length (take i bytes) ≡ i = length-take-le i bytes (omega arith) in
-    ap (λ (k : ℕ). set (laid page at (take i bytes)) (at + k) (get_or bytes i 0)) (sym long)
-    ∙ laid_more page at (take i bytes) (get_or bytes i 0 ∷ [])
-    ∙ ap (laid page at) (sym (take-suc bytes i 0 h))
-    ∙ ap (λ (k : ℕ). laid page at (take k bytes)) (sym (add-one i))
-
--- ---- a text
-
-module _ (bs : List ℕ) (text : Text) (e : text ≡ text_of bs) where
-  pub text-long : length bs ≤ text_most → length text.bytes ≡ text_most
-  text-long h =
-      ap (λ (x : Text). length x.bytes) e ∙ length-append bs (replicate (text_most - length bs) 0)
-      ∙ ap (λ (k : ℕ). length bs + k) (length-replicate {A = ℕ} (text_most - length bs) 0) ∙ omega arith
-
-  pub text-len : text.len ≡ length bs
-  text-len = ap (λ (x : Text). x.len) e
-
-  pub text-bytes : take text.len text.bytes ≡ bs
-  text-bytes = ap (λ (x : Text). take x.len x.bytes) e ∙ take-append_seam bs (replicate (text_most - length bs) 0)
-
--- ---- what a program writes of a page
+use Rattle.text.proofs.Writes.{text-bytes}
 
 -- The first bytes of the page are those that were laid there.
 pub laid-front : (page bs : List ℕ) → length page ≡ page_most → length bs ≤ page_most → take (length bs) (laid page 0 bs) ≡ bs
 laid-front page bs long few = ap (take (length bs)) (sets-eq bs page 0 (omega arith)) ∙ take-append_seam bs _
 
--- ---- a text behind others
+-- ---- the lines of tasks
 
--- A text that has room on the page, as laying it asks.
-pub text-room : (bs : List ℕ) (text : Text) (at : ℕ) → text ≡ text_of bs → length bs ≤ text_most → at + length bs ≤ page_most
-    → (at + text.len ≤ page_most) × (text.len ≤ text_most) × (length text.bytes ≡ text_most)
-text-room bs text at e few room = (omega (arith, text-len bs text e), omega (arith, text-len bs text e), text-long bs text e few)
+module _ (start : List ℕ) (at : ℕ) (ls : List ℕ) where
+  abbrev pub Behind : ℕ → ℕ → List ℕ → Type 0
+  Behind k end page = (end ≡ at + length (task_lines ls k)) × (page ≡ over.laid start at (task_lines ls k))
 
--- Behind the bytes bs, which were laid from `at` on and ended at `end`, those of a text: cs.
-pub text-laid : (start page page' : List ℕ) (at end r : ℕ) (bs cs : List ℕ) (text : Text)
-    → page ≡ laid start at bs → end ≡ at + length bs → text ≡ text_of cs
-    → (r ≡ end + text.len) × (page' ≡ laid page end (take text.len text.bytes))
-    → (r ≡ at + length (bs ++ cs)) × (page' ≡ laid start at (bs ++ cs))
-text-laid start page page' at end r bs cs text laid_so ends e added = (
-  omega (arith, added.0, text-len cs text e, length-append bs cs),
-  added.1
-      ∙ ap (laid page end) (text-bytes cs text e)
-      ∙ ap (λ (k : ℕ). laid page k cs) ends
-      ∙ ap (λ (xs : List ℕ). laid xs (at + length bs) cs) laid_so
-      ∙ laid_more start at bs cs,
-)
+  pub lines-start : at ≤ length start → Behind 0 at start
+  unfolding task_lines
+  lines-start room = (omega arith, sym (laid-nothing start at room))
+
+  pub line-more : at + tasks_most * line_most ≤ length start → (k end : ℕ) (page : List ℕ) → k < tasks_most → Behind k end page
+      → (text : Text) (bytes : List ℕ) → text ≡ text_of (task_line k (get_or ls k 0)) → bytes ≡ take text.len text.bytes
+      → (r : ℕ) (p : List ℕ) → (r ≡ end_of (length page) end (length bytes)) × (p ≡ over.laid page end bytes) → Behind (k + 1) r p
+  line-more room k end page h here text bytes line lent r p laid_so =
+      let more = task_line k (get_or ls k 0) in
+      let said : bytes ≡ more = lent ∙ text-bytes text more line in
+      let behind =
+      lay-behind start at (task_lines ls k) more page end (omega (arith, task-lines-most ls k, task-line-most k (get_or ls k 0))) here.0 here.1 r p (
+        laid_so.0 ∙ ap (λ (bs : List ℕ). end_of (length page) end (length bs)) said,
+        laid_so.1 ∙ ap (over.laid page end) said,
+      ) in
+      rw (task-lines-next ls k) behind
+
+-- ---- the header, and what stands behind it
+
+abbrev pub header : List ℕ
+header = heading ++ crlf
+
+module _ (start page : List ℕ) (at : ℕ) (long : length start ≡ page_most)
+    (first : (at ≡ end_of (length start) 0 (length header)) × (page ≡ over.laid start 0 header)) where
+  pub header-ends : at ≡ length header
+  header-ends = first.0 ∙ end-room start header 0 (omega (arith, long)) ∙ zero-add (length header)
+
+  pub page-long : length page ≡ page_most
+  page-long = ap length first.1 ∙ laid-length start header 0 (omega (arith, long)) ∙ long
+
+  -- What is laid behind it stands behind it on the page.
+  body-laid : (body page' : List ℕ) (r : ℕ) → length body ≤ tasks_most * line_most → (r ≡ at + length body) × (page' ≡ over.laid page at body)
+      → (page' ≡ laid start 0 (header ++ body)) × (r ≡ length (header ++ body))
+  body-laid body page' r few laid_so =
+      let fits : 0 + (length header + length body) ≤ length start = omega (arith, long, few) in
+      let at-end : at ≡ 0 + length header = header-ends ∙ sym (zero-add (length header)) in
+      let behind =
+      lay-behind start 0 header body page at fits at-end first.1 r page'
+      (laid_so.0 ∙ sym (end-room page body at (omega (arith, page-long, fits, at-end))), laid_so.1) in
+      (behind.1 ∙ laid-sets start (header ++ body) 0 (omega (arith, length-append header body, fits)), behind.0 ∙ zero-add (length (header ++ body)))
+
+  -- The lines of tasks,
+  pub found-laid : (s : Result Responses Refusal) (r : Responses) → s ≡ Ok r → r.count ≤ tasks_most → (end : ℕ) (page' : List ℕ)
+      → (end ≡ at + length (task_lines r.least r.count)) × (page' ≡ over.laid page at (task_lines r.least r.count))
+      → (page' ≡ laid start 0 (printed s)) × (end ≡ length (printed s)) × (None ≡ result_err s)
+  unfolding printed body_of
+  found-laid s r is few end page' laid_so =
+      let wrote = body-laid (task_lines r.least r.count) page' end (omega (arith, task-lines-most r.least r.count)) laid_so in
+      rw is (wrote.0, wrote.1, refl)
+
+  -- or that of a refusal.
+  pub refused-laid : (s : Result Responses Refusal) (e : Refusal) → s ≡ Err e → (text : Text) (bytes : List ℕ) → text ≡ text_of (refused_line (number_of e))
+      → bytes ≡ take text.len text.bytes → (end : ℕ) (page' : List ℕ)
+      → (end ≡ end_of (length page) at (length bytes)) × (page' ≡ over.laid page at bytes)
+      → (page' ≡ laid start 0 (printed s)) × (end ≡ length (printed s)) × (Some e ≡ result_err s)
+  unfolding printed body_of
+  refused-laid s e is text bytes line lent end page' laid_so =
+      let body = refused_line (number_of e) in
+      let said : bytes ≡ body = lent ∙ text-bytes text body line in
+      let few : length body ≤ line_most = refused-line-most (number_of e) in
+      let ends : end ≡ at + length body =
+      laid_so.0 ∙ ap (λ (bs : List ℕ). end_of (length page) at (length bs)) said
+      ∙ end-room page body at (omega (arith, header-ends, page-long, few)) in
+      let wrote = body-laid body page' end (omega (arith, few)) (ends, laid_so.1 ∙ ap (over.laid page at) said) in
+      rw is (wrote.0, wrote.1, refl)

@@ -1,5 +1,4 @@
 -- Lines in their space, lines on a page, and the whole.
 pub mod Printed
 pub mod Laid
-pub mod Profiles
 pub mod Whole

@@ -1,130 +1,137 @@
 -- The whole: what is written meets the promise, and the promise allows no other.
 use mathlib.Core.Bool.{Bool, true, false}
 use mathlib.Core.List.{List}
-use mathlib.Core.Logic.{inl, inr}
+use mathlib.Core.Logic.{◌⊎◌, inl, inr}
 use mathlib.Core.Path.{◌≡◌, refl, sym, ap, subst, ◌∙◌}
 use native.Mathlib.Omega.{arith}
-use Prim.Native.Nat.{ℕ, zero, suc, ◌*◌, ◌≤◌}
-use borrow.Author.Tests.{ne_eqb}
+use Prim.Native.Nat.{ℕ, zero, suc, ◌≤◌}
 use lib.Dec.{eqb, eqb-suc-zero}
 use lib.ListN.{length, take, length-append}
 use lib.Seq.{length-sets}
+use Rattle.std.specs.Prelude.{Result, Ok, Err}
+use Rattle.std.specs.Result.{result_err}
 use Rattle.demand.specs.Limits.{tasks_most}
+use Rattle.demand.specs.Numbered.{number_of, refusal_at, answered}
 use Rattle.demand.specs.Refusals.{table_refusal}
-use Rattle.demand.specs.Rows.{tasks_of, handlers_of}
+use Rattle.demand.specs.Rows.{tasks_of}
 use Rattle.demand.specs.Tests.{pick}
+use Rattle.demand.specs.declared.refusal.Refusal.{Refusal}
+use Rattle.demand.specs.declared.refusal.Refusal.TheVariants.{FileMalformed}
 use Rattle.demand.specs.declared.table.Kind.TheVariants.{Task, Handler}
-use Rattle.layout.specs.File.{Entry}
-use Rattle.layout.specs.Refusals.{refusal_in}
-use Rattle.layout.specs.Table.{list_of, misplaced, ReadSays}
+use Rattle.demand.proofs.Numbered.{answered-ok, answered-err}
+use Rattle.demand.proofs.Refusals.{refusal-in-range}
+use Rattle.layout.specs.File.{Entry, SaysNothing}
+use Rattle.layout.specs.Refusals.{refusal_in, Misplaces, TableIn}
+use Rattle.layout.specs.Table.{list_of, misplaced, listed}
 use Rattle.layout.specs.declared.reader.Table.{Table}
 use Rattle.layout.proofs.File.{says-unique}
-use Rattle.layout.proofs.Table.{listed, flat-listed}
-use Rattle.priority.specs.Answers.{Figures, figures, figures_by, no_lengths, number, ResponsesSay}
-use Rattle.priority.specs.Responses.{leasts}
-use Rattle.priority.specs.declared.Answer.{Answer}
-use Rattle.priority.specs.declared.Answer.TheVariants.{Found, Refused}
-use Rattle.priority.specs.declared.Profile.{Profile}
-use Rattle.priority_sheet.specs.Printed.{body_of, printed, line_most}
-use Rattle.priority_sheet.specs.Whole.{page_most, laid, profile_by, Sheet, lines_of, sheet_of, broken, FileSheet, PageSays, OnePage}
+use Rattle.layout.proofs.Table.{table-lists, table-refused}
+use Rattle.priority.specs.Answers.{ResponsesSay}
+use Rattle.priority_sheet.specs.Printed.{body_of, printed}
+use Rattle.priority_sheet.specs.Whole.{page_most, laid, sheet_of, Few, FileSheet, PageSays, OnePage}
 use Rattle.priority_sheet.specs.declared.Output.{Output}
-use Rattle.priority_sheet.proofs.Laid.{laid-front}
+use Rattle.priority_sheet.specs.declared.Responses.{Responses}
+use Rattle.priority_sheet.proofs.Laid.{header, laid-front}
 use Rattle.priority_sheet.proofs.Printed.{refused-line-most, task-lines-most}
-use Rattle.priority_sheet.proofs.Profiles.{header, found-few}
 
-clash : (P : Type 0) → true ≡ false → P
-clash P e =
-    let z : ◌≡◌ {A = ℕ} 0 1 = cc in
-    let f : ⊥ = omega arith in
-    absurd f
+-- ---- the answer for the table of a file
 
--- ---- the answer to a table, by whether a handler has a deadline
+-- What is refused is refused, whatever the value would be,
+answered-refused : {A B : Type 0} (k : ℕ) (a : A) (b : B) (e : Refusal) → Err e ≡ answered k a → Err e ≡ answered k b
+unfolding answered
+answered-refused zero a b e told = absurd (cc)
+answered-refused (suc k) a b e told = rw (eqb-suc-zero k) (ap Err (inside told))
+  where
+    inside : Err e ≡ answered (suc k) a → e ≡ refusal_at (suc k)
+    inside f = let g : Err e ≡ Err (refusal_at (suc k)) = rw (eqb-suc-zero k) at f in cc
 
--- What the promise of `responses` allows.
-says-profile : (t h : List ℕ) (p : Profile) → ResponsesSay t h p → p ≡ profile_by (table_refusal t h) (leasts (tasks_of t) (handlers_of h))
-unfolding figures figures_by
-says-profile t h p says =
-    let answer = says.answer in
-    let least = ap (λ (f : Figures). f.least) says.figured in
-    λ i. record { answer = answer i; least = least i }
+-- and a value is what there is.
+answered-value : {A : Type 0} (k : ℕ) (a b : A) → Ok b ≡ answered k a → (k ≡ 0) × (b ≡ a)
+unfolding answered
+answered-value zero a b told = (refl, cc)
+answered-value (suc k) a b told =
+    let g : Ok b ≡ Err (refusal_at (suc k)) = rw (eqb-suc-zero k) at told in absurd (cc)
 
-module _ (t h : List ℕ) (p : Profile) (says : ResponsesSay t h p) where
-  abbrev ls : List ℕ
-  ls = leasts (tasks_of t) (handlers_of h)
-
-  -- A profile with lengths is that of a table that is not refused.
-  pub found-table : p.answer ≡ Found → table_refusal t h ≡ 0
-  found-table e = go (table_refusal t h) refl (sym says.answer ∙ e)
+module _ (bs : List ℕ) where
+  pub sheet-refused : (e : Refusal) → TableIn bs (Err e) → FileSheet bs (Err e)
+  sheet-refused e told = go (table-refused bs e told)
     where
-      go : (k : ℕ) → table_refusal t h ≡ k → pick (eqb (table_refusal t h) 0) Found (Refused (table_refusal t h)) ≡ Found → table_refusal t h ≡ 0
-      go zero same told = same
-      go (suc k) same told =
-          let other : pick (eqb (suc k) 0) Found (Refused (suc k)) ≡ Found = rw same at told in
-          let clashing : Refused (suc k) ≡ Found = rw (eqb-suc-zero k) at other in
-          let z : ◌≡◌ {A = ℕ} 0 1 = cc clashing in
-          absurd (omega arith)
+      go : Misplaces bs e ⊎ (SaysNothing bs × (e ≡ FileMalformed)) → FileSheet bs (Err e)
+      go (inl m) =
+          inl (
+            m.rows,
+            m.says,
+            subst (λ (b : Bool). Err e ≡ sheet_of b (list_of Task m.rows) (list_of Handler m.rows)) (sym m.placed)
+                (answered-err _ _ e m.number),
+          )
+      go (inr n) = inr (n.0, ap Err n.1)
 
-  -- Nobody has a deadline that may not: the promise's own.
-  pub placed : (m : Bool) → m ≡ false → p ≡ profile_by (refusal_in m t h) (leasts (tasks_of t) (handlers_of h))
-  placed true e = clash _ e
-  placed false e = says-profile t h p says
+  module _ (t : Table) (told : TableIn bs (Ok t)) (ts hs : List ℕ) (tasks : ts ≡ listed t.tasks) (handlers : hs ≡ listed t.handlers) where
+    -- the promise of `responses` over the file's rows
+    lent : (r : Result (List ℕ) Refusal) → ResponsesSay ts hs r
+        → ResponsesSay (list_of Task (table-lists bs t told).rows) (list_of Handler (table-lists bs t told).rows) r
+    lent r says =
+        let l = table-lists bs t told in
+        subst (λ (s : List ℕ). ResponsesSay s (list_of Handler l.rows) r) (tasks ∙ l.tasks)
+        (subst (λ (s : List ℕ). ResponsesSay ts s r) (handlers ∙ l.handlers) says)
 
-  -- A handler has one, and nothing else is refused: 13.
-  pub misplaced-thirteen : (m : Bool) (q : Profile) → m ≡ true → p.answer ≡ Found → q ≡ profile_by 13 no_lengths
-      → q ≡ profile_by (refusal_in m t h) (leasts (tasks_of t) (handlers_of h))
-  misplaced-thirteen false q e found is = clash _ (sym e)
-  misplaced-thirteen true q e found is = is ∙ rw (found-table found)
+    -- A refusal of it is handed on,
+    pub sheet-own : (e : Refusal) → ResponsesSay ts hs (Err e) → FileSheet bs (Err e)
+    sheet-own e says =
+        let l = table-lists bs t told in
+        inl (
+          l.rows,
+          l.says,
+          subst (λ (b : Bool). Err e ≡ sheet_of b (list_of Task l.rows) (list_of Handler l.rows)) (sym l.placed)
+              (answered-refused _ _ _ e (lent (Err e) says).answer),
+        )
 
-  -- What is refused stays so.
-  pub refused-own : (m : Bool) (k : ℕ) → p.answer ≡ Refused k → p ≡ profile_by (refusal_in m t h) (leasts (tasks_of t) (handlers_of h))
-  refused-own m k e = go m (table_refusal t h) refl
-    where
-      go : (m : Bool) (j : ℕ) → table_refusal t h ≡ j → p ≡ profile_by (refusal_in m t h) (leasts (tasks_of t) (handlers_of h))
-      go false j same = says-profile t h p says
-      go true zero same =
-          let told : Found ≡ Refused k = rw same at (sym says.answer ∙ e) in
-          let z : ◌≡◌ {A = ℕ} 0 1 = cc told in
-          absurd (omega arith)
-      go true (suc j) same =
-          let own : table_refusal t h ≡ refusal_in true t h =
-          sym (ap (λ (b : Bool). pick b 13 (table_refusal t h)) (ne_eqb (table_refusal t h) 0 (λ z. omega arith))) in
-          says-profile t h p says ∙ ap (λ (i : ℕ). profile_by i (leasts (tasks_of t) (handlers_of h))) own
+    -- and responses are told with the count of tasks.
+    pub sheet-told : (ls : List ℕ) (n : ℕ) → ResponsesSay ts hs (Ok ls) → n ≡ length (tasks_of ts) → FileSheet bs (Ok (record { least = ls; count = n }))
+    sheet-told ls n says count =
+        let l = table-lists bs t told in
+        let value = answered-value _ _ _ (lent (Ok ls) says).answer in
+        let rows : n ≡ length (tasks_of (list_of Task l.rows)) = count ∙ ap (λ (s : List ℕ). length (tasks_of s)) (tasks ∙ l.tasks) in
+        inl (
+          l.rows,
+          l.says,
+          subst (λ (b : Bool). Ok (record { least = ls; count = n }) ≡ sheet_of b (list_of Task l.rows) (list_of Handler l.rows)) (sym l.placed)
+              (answered-ok _ _ _ value.0 (λ i. record { least = value.1 i; count = rows i })),
+        )
+
+-- ---- responses are those of 64 tasks at most
+
+few-of : (m : Bool) (t h : List ℕ) → Few (sheet_of m t h)
+few-of m t h r e =
+    let value = answered-value (refusal_in m t h) _ r (sym e) in
+    let few : length (tasks_of t) ≤ tasks_most = (refusal-in-range t h (own m (table_refusal t h) refl value.0)).tasks-most in
+    rw (ap (λ (x : Responses). x.count) value.1) few
+  where
+    own : (b : Bool) (k : ℕ) → table_refusal t h ≡ k → refusal_in b t h ≡ 0 → table_refusal t h ≡ 0
+    own false k e z = z
+    own true zero e z = e
+    own true (suc k) e z =
+        let told : pick (eqb (suc k) 0) 13 (suc k) ≡ 0 = rw e at z in
+        let same : suc k ≡ 0 = rw (eqb-suc-zero k) at told in
+        absurd (omega arith)
+
+pub sheet-few : (bs : List ℕ) (s : Result Responses Refusal) → FileSheet bs s → Few s
+sheet-few bs s (inl x) = subst Few (sym x.2) (few-of (misplaced x.0) (list_of Task x.0) (list_of Handler x.0))
+sheet-few bs s (inr x) = subst Few (sym x.1) none
+  where
+    none : Few (Err FileMalformed)
+    none r e = absurd (cc)
 
 -- ---- the output meets the promise
 
-module _ (bs : List ℕ) (t : Table) (page page' : List ℕ) (out : Output) where
-  pub broken-page : ReadSays bs t → t.ok ≡ false → (p : Profile) → p ≡ profile_by 12 no_lengths
-      → page' ≡ laid page 0 (printed p 0) → out.len ≡ length (printed p 0) → out.refusal ≡ number p.answer → PageSays bs page page' out
-  unfolding ReadSays
-  broken-page (inl r) bad p is written counted refusal = clash _ (sym (ap (λ (x : Table). x.ok) r.2) ∙ bad)
-  broken-page (inr r) bad p is written counted refusal =
-      record {
-        sheet = broken;
-        figures = inr (r.0, refl);
-        written = subst (λ (q : Profile). page' ≡ laid page 0 (printed q 0)) is written;
-        counted = subst (λ (q : Profile). out.len ≡ length (printed q 0)) is counted;
-        refusal = subst (λ (q : Profile). out.refusal ≡ number q.answer) is refusal;
-      }
-
-  pub table-page : ReadSays bs t → t.ok ≡ true → (p : Profile) (n : ℕ)
-      → p ≡ profile_by (refusal_in t.misplaced (listed t.tasks) (listed t.handlers)) (leasts (tasks_of (listed t.tasks)) (handlers_of (listed t.handlers)))
-      → n ≡ length (tasks_of (listed t.tasks))
-      → page' ≡ laid page 0 (printed p n) → out.len ≡ length (printed p n) → out.refusal ≡ number p.answer → PageSays bs page page' out
-  unfolding ReadSays
-  table-page (inl r) ok p n is count written counted refusal =
-      let deadline : t.misplaced ≡ misplaced r.0 = ap (λ (x : Table). x.misplaced) r.2 in
-      let tasks : listed t.tasks ≡ list_of Task r.0 = ap (λ (x : Table). listed x.tasks) r.2 ∙ flat-listed (list_of Task r.0) in
-      let handlers : listed t.handlers ≡ list_of Handler r.0 = ap (λ (x : Table). listed x.handlers) r.2 ∙ flat-listed (list_of Handler r.0) in
-      let given : Sheet = record { profile = p; count = n } in
-      let same : given ≡ sheet_of t.misplaced (listed t.tasks) (listed t.handlers) = λ i. record { profile = is i; count = count i } in
-      let said : sheet_of t.misplaced (listed t.tasks) (listed t.handlers) ≡ sheet_of (misplaced r.0) (list_of Task r.0) (list_of Handler r.0) =
-      λ i. sheet_of (deadline i) (tasks i) (handlers i) in
-      record { sheet = given; figures = inl (r.0, r.1, same ∙ said); written = written; counted = counted; refusal = refusal }
-  table-page (inr r) ok p n is count written counted refusal = clash _ (sym ok ∙ ap (λ (x : Table). x.ok) r.1)
+pub sheet-says : (bs page page' : List ℕ) (out : Output) (s : Result Responses Refusal) → FileSheet bs s
+    → (page' ≡ laid page 0 (printed s)) × (out.len ≡ length (printed s)) × (out.refusal ≡ result_err s) → PageSays bs page page' out
+sheet-says bs page page' out s figures wrote =
+    record { sheet = s; figures = figures; written = wrote.0; counted = wrote.1; refusal = wrote.2 }
 
 -- ---- and no other does
 
-sheet-unique : (bs : List ℕ) (a b : Sheet) → FileSheet bs a → FileSheet bs b → a ≡ b
+sheet-unique : (bs : List ℕ) (a b : Result Responses Refusal) → FileSheet bs a → FileSheet bs b → a ≡ b
 sheet-unique bs a b (inl x) (inl y) =
     let same : x.0 ≡ y.0 = says-unique bs x.0 y.0 x.1 y.1 in
     x.2 ∙ ap (λ (es : List Entry). sheet_of (misplaced es) (list_of Task es) (list_of Handler es)) same ∙ sym y.2
@@ -135,41 +142,28 @@ sheet-unique bs a b (inr x) (inr y) = x.1 ∙ sym y.1
 pub page-unique : OnePage
 page-unique bs page a b x y s t =
     let same : s.sheet ≡ t.sheet = sheet-unique bs s.sheet t.sheet s.figures t.figures in
-    let len : x.len ≡ y.len = s.counted ∙ ap (λ (z : Sheet). length (lines_of z)) same ∙ sym t.counted in
-    let refusal : x.refusal ≡ y.refusal = s.refusal ∙ ap (λ (z : Sheet). number z.profile.answer) same ∙ sym t.refusal in
-    (s.written ∙ ap (λ (z : Sheet). laid page 0 (lines_of z)) same ∙ sym t.written, λ i. record { len = len i; refusal = refusal i })
+    let len : x.len ≡ y.len = s.counted ∙ ap (λ (z : Result Responses Refusal). length (printed z)) same ∙ sym t.counted in
+    let refusal : x.refusal ≡ y.refusal = s.refusal ∙ ap (λ (z : Result Responses Refusal). result_err z) same ∙ sym t.refusal in
+    (s.written ∙ ap (λ (z : Result Responses Refusal). laid page 0 (printed z)) same ∙ sym t.written, λ i. record { len = len i; refusal = refusal i })
 
 -- ---- what a program writes of it
 
 -- The lines of any file have room on a page.
-lines-most : (p : Profile) (n : ℕ) → (p.answer ≡ Found → n ≤ tasks_most) → length (printed p n) ≤ page_most
+lines-most : (s : Result Responses Refusal) → Few s → length (printed s) ≤ page_most
 unfolding printed body_of
-lines-most p n few = omega (arith, length-append header (body_of p.answer p.least n), body p.answer few)
-  where
-    body : (a : Answer) → (a ≡ Found → n ≤ tasks_most) → length (body_of a p.least n) ≤ 64 * line_most
-    body Found h = omega (arith, task-lines-most p.least n, h refl)
-    body (Refused k) h = omega (arith, refused-line-most k)
-
-file-most : (bs : List ℕ) (s : Sheet) → FileSheet bs s → length (lines_of s) ≤ page_most
-file-most bs s (inl r) =
-    let es = r.0 in
-    let t = list_of Task r.0 in
-    let h = list_of Handler r.0 in
-    let ls = leasts (tasks_of t) (handlers_of h) in
-    let p : Profile = profile_by (refusal_in (misplaced es) t h) ls in
-    subst (λ (z : Sheet). length (lines_of z) ≤ page_most) (sym r.2) (lines-most p (length (tasks_of t)) (found-few (misplaced es) t h ls p refl))
-file-most bs s (inr r) =
-    subst (λ (z : Sheet). length (lines_of z) ≤ page_most) (sym r.1) (lines-most (profile_by 12 no_lengths) 0 (λ e. omega arith))
+lines-most (Ok r) few = omega (arith, length-append header (body_of (Ok r)), task-lines-most r.least r.count, few r refl)
+lines-most (Err e) few = omega (arith, length-append header (body_of (Err e)), refused-line-most (number_of e))
 
 -- So many bytes of the page can be lent, and they are the lines.
 pub page-lent : (bs page page' : List ℕ) (out : Output) → length page ≡ page_most → PageSays bs page page' out
     → (out.len ≤ length page') × (out.len ≡ length (take out.len page'))
 page-lent bs page page' out long says =
-    let few : length (lines_of says.sheet) ≤ page_most = file-most bs says.sheet says.figures in
-    let front : take (length (lines_of says.sheet)) (laid page 0 (lines_of says.sheet)) ≡ lines_of says.sheet = laid-front page (lines_of says.sheet) long few in (
-      omega (arith, says.counted, ap (λ (xs : List ℕ). length xs) says.written, length-sets page 0 (lines_of says.sheet)),
+    let lines = printed says.sheet in
+    let few : length lines ≤ page_most = lines-most says.sheet (sheet-few bs says.sheet says.figures) in
+    let front : take (length lines) (laid page 0 lines) ≡ lines = laid-front page lines long few in (
+      omega (arith, says.counted, ap (λ (xs : List ℕ). length xs) says.written, length-sets page 0 lines),
       says.counted
           ∙ ap length (sym front)
-          ∙ ap (λ (xs : List ℕ). length (take (length (lines_of says.sheet)) xs)) (sym says.written)
+          ∙ ap (λ (xs : List ℕ). length (take (length lines) xs)) (sym says.written)
           ∙ ap (λ (k : ℕ). length (take k page')) (sym says.counted),
     )

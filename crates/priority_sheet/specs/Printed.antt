@@ -5,14 +5,14 @@
 --   task_line i l      == the line of task i, whose response is l
 --   task_lines ls n    == those of the first n tasks, whose responses are ls
 --   refused_line k     == the line of refusal k; figures that do not apply are 0
---   body_of a ls n     == the lines behind the header, of the answer a and the responses ls to a table of n tasks
---   printed p n       == all lines of the profile p of a table of n tasks
+--   body_of r          == the lines behind the header, of responses or a refusal
+--   printed r         == all lines of them
 --   line_most          == the most bytes of a line: a word of 7, a comma and 20 digits for each number, the line end
-use Rattle.std.specs.Prelude.{List, [], ◌∷◌, ◌++◌, ℕ, zero, suc, eqb, get_or}
+use Rattle.std.specs.Prelude.{List, [], ◌∷◌, ◌++◌, ℕ, zero, suc, eqb, get_or, Result, Ok, Err}
 use Rattle.demand.specs.Tests.{pick}
-use Rattle.priority.specs.declared.Answer.{Answer}
-use Rattle.priority.specs.declared.Answer.TheVariants.{Found, Refused}
-use Rattle.priority.specs.declared.Profile.{Profile}
+use Rattle.demand.specs.Numbered.{number_of}
+use Rattle.demand.specs.declared.refusal.Refusal.{Refusal}
+use Rattle.priority_sheet.specs.declared.Responses.{Responses}
 use Rattle.text.specs.Ascii.{ascii, crlf}
 use Rattle.text.specs.Numbers.{fields_of}
 
@@ -38,9 +38,9 @@ refused_line k = line_of (ascii "refused") (k ∷ 0 ∷ 0 ∷ [])
 abbrev pub line_most : ℕ
 line_most = 72
 
-unfoldable pub body_of : Answer → List ℕ → ℕ → List ℕ
-body_of Found ls n = task_lines ls n
-body_of (Refused k) ls n = refused_line k
+unfoldable pub body_of : Result Responses Refusal → List ℕ
+body_of (Ok r) = task_lines r.least r.count
+body_of (Err e) = refused_line (number_of e)
 
-unfoldable pub printed : Profile → ℕ → List ℕ
-printed p n = (heading ++ crlf) ++ body_of p.answer p.least n
+unfoldable pub printed : Result Responses Refusal → List ℕ
+printed r = (heading ++ crlf) ++ body_of r

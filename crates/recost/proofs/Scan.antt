@@ -2,12 +2,11 @@
 use mathlib.Core.Bool.{Bool, true, false, ◌&&◌}
 use mathlib.Core.List.{List}
 use mathlib.Core.Path.{◌≡◌, refl, sym, ap, ◌∙◌}
-use native.Mathlib.Nat.{sub-zero}
 use native.Mathlib.Numerals.{add-one}
 use native.Mathlib.Omega.{arith}
-use borrow.Author.Tests.{eqb-true, ltb-true, ltb-false}
-use Prim.Native.Nat.{ℕ, zero, suc, ◌+◌, ◌-◌, ◌≤◌, ◌<◌}
-use lib.Dec.{eqb, ltb}
+use borrow.Author.Tests.{eqb-true}
+use Prim.Native.Nat.{ℕ, zero, suc, ◌+◌, ◌-◌, ◌<◌}
+use lib.Dec.{eqb}
 use lib.ListN.{length, get_or, drop}
 use lib.Seq.{drop-cons, drop-length}
 use Rattle.demand.specs.Tests.{pick}
@@ -47,13 +46,3 @@ module _ (bs : List ℕ) (i k : ℕ) (inside : i < length bs) where
 pub scan-ends : (bs : List ℕ) (i k : ℕ) → length bs ≡ i → cost_from (drop i bs) k ≡ 0
 unfolding cost_from
 scan-ends bs i k e = ap (λ (j : ℕ). cost_from (drop j bs) k) (sym e) ∙ ap (λ (xs : List ℕ). cost_from xs k) (drop-length bs)
-
--- ---- how many tasks are left
-
-pub fewer-one : (b : Bool) (k : ℕ) → (b && ltb 0 k) ≡ true → (1 ≤ k) × (k - 1 ≡ k - pick b 1 0)
-fewer-one true k e = (ltb-true 0 k e, refl)
-fewer-one false k e = absurd (let z : ◌≡◌ {A = ℕ} 0 1 = ap (λ (b : Bool). pick b 1 0) e in omega arith)
-
-pub fewer-none : (b : Bool) (k : ℕ) → (b && ltb 0 k) ≡ false → k ≡ k - pick b 1 0
-fewer-none true k e = omega (arith, ltb-false 0 k e)
-fewer-none false k e = sym (sub-zero k)

@@ -11,7 +11,8 @@ use lib.ListN.{length, take, length-append}
 use lib.Seq.{take-append_seam}
 use Rattle.demand.specs.Tests.{pick}
 use Rattle.schedule_file.specs.File.{Entry, file_text, AllLawful, FileSays, OneList}
-use Rattle.schedule_file.specs.Inside.Building.{Outcome, none, some, few_of, Reading, read_from, read_over, rows_at_end, outcome}
+use Rattle.std.specs.Prelude.{Option, Some, None}
+use Rattle.schedule_file.specs.Inside.Building.{few_of, Reading, read_from, read_over, rows_at_end, outcome}
 use Rattle.schedule_file.specs.Inside.Steps.{is_start}
 use Rattle.schedule_file.specs.declared.steps.State.{State}
 use Rattle.schedule_file.specs.declared.steps.State.TheVariants.{Broken, Head, HeadCr, Start, First, Digits, RowCr}
@@ -24,7 +25,7 @@ use Rattle.text.proofs.Tests.{by}
 -- ---- what is accepted is a text
 
 -- Nothing is no rows.
-pub never : (P : Type 0) (fs : List Entry) → none ≡ some fs → P
+pub never : (P : Type 0) (fs : List Entry) → None ≡ Some fs → P
 never P fs e =
     let z : ◌≡◌ {A = ℕ} 0 1 = cc in
     let f : ⊥ = omega arith in
@@ -58,7 +59,7 @@ Ends l fs = AllLawful fs × ((l ≡ file_text fs) ⊎ (l ≡ file_text fs ++ crl
 
 module _ (bs : List ℕ) (fs : List Entry) where
   -- The last line lacked its CRLF,
-  ends-short : is_start (read_from (read_over bs) crlf).st ≡ true → some (read_from (read_over bs) crlf).rows ≡ some fs → Ends bs fs
+  ends-short : is_start (read_from (read_over bs) crlf).st ≡ true → Some (read_from (read_over bs) crlf).rows ≡ Some fs → Ends bs fs
   ends-short t e =
       let w = read_from (read_over bs) crlf in
       let q : w.rows ≡ fs = cc in
@@ -69,68 +70,68 @@ module _ (bs : List ℕ) (fs : List Entry) where
       (subst AllLawful q h.0, inl (sym (without_end (file_text w.rows) bs crlf h.1) ∙ ap file_text q))
 
   -- or had it.
-  ends-full : is_start (read_over bs).st ≡ true → some (read_over bs).rows ≡ some fs → Ends bs fs
+  ends-full : is_start (read_over bs).st ≡ true → Some (read_over bs).rows ≡ Some fs → Ends bs fs
   ends-full t e =
       let w = read_over bs in
       let q : w.rows ≡ fs = cc in
       let h = holds-start w.st w.rows bs t (holds bs) in
       (subst AllLawful q h.0, inr (sym h.1 ∙ ap (λ (x : List Entry). file_text x ++ crlf) q))
 
-  ends : rows_at_end (read_over bs) ≡ some fs → Ends bs fs
+  ends : rows_at_end (read_over bs) ≡ Some fs → Ends bs fs
   ends e =
       by (λ t. is_start (read_from (read_over bs) crlf).st ≡ t
-      → pick t (some (read_from (read_over bs) crlf).rows) (pick (is_start (read_over bs).st) (some (read_over bs).rows) none) ≡ some fs
+      → pick t (Some (read_from (read_over bs) crlf).rows) (pick (is_start (read_over bs).st) (Some (read_over bs).rows) None) ≡ Some fs
       → Ends bs fs)
       (is_start (read_from (read_over bs) crlf).st)
       (λ _. λ t. λ x. ends-short t x)
       (λ _. λ _. λ y.
-      by (λ t. is_start (read_over bs).st ≡ t → pick t (some (read_over bs).rows) none ≡ some fs → Ends bs fs) (is_start (read_over bs).st)
+      by (λ t. is_start (read_over bs).st ≡ t → pick t (Some (read_over bs).rows) None ≡ Some fs → Ends bs fs) (is_start (read_over bs).st)
       (λ _. λ t. λ x. ends-full t x)
       (λ _. λ t. λ x. never _ fs x)
       refl y)
       refl e
 
 -- Rows that are few are handed on.
-few-some : (o : Outcome) (fs : List Entry) → few_of o ≡ some fs → (o ≡ some fs) × (length fs ≤ segments_most)
-few-some none fs e = never _ fs e
-few-some (some es) fs e = go (ltb segments_most (length es)) refl e
+few-Some : (o : Option (List Entry)) (fs : List Entry) → few_of o ≡ Some fs → (o ≡ Some fs) × (length fs ≤ segments_most)
+few-Some None fs e = never _ fs e
+few-Some (Some es) fs e = go (ltb segments_most (length es)) refl e
   where
-    go : (t : Bool) → ltb segments_most (length es) ≡ t → pick t none (some es) ≡ some fs → (some es ≡ some fs) × (length fs ≤ segments_most)
+    go : (t : Bool) → ltb segments_most (length es) ≡ t → pick t None (Some es) ≡ Some fs → (Some es ≡ Some fs) × (length fs ≤ segments_most)
     go true l f = never _ fs f
     go false l f =
         let q : es ≡ fs = cc in
         (f, subst (λ (gs : List Entry). length gs ≤ segments_most) q (ltb-false segments_most (length es) l))
 
 -- What is accepted is a text of the layout.
-pub sound : (bs : List ℕ) (fs : List Entry) → outcome bs ≡ some fs → FileSays bs fs
+pub sound : (bs : List ℕ) (fs : List Entry) → outcome bs ≡ Some fs → FileSays bs fs
 sound bs fs e =
-    let told = few-some (rows_at_end (read_over bs)) fs e in
+    let told = few-Some (rows_at_end (read_over bs)) fs e in
     let w = ends bs fs told.0 in
     record { few = told.1; lawful = w.0; written = w.1 }
 
 -- ---- a text is accepted
 
 accepted : (bs : List ℕ) (es : List Entry) → AllLawful es → (bs ≡ file_text es) ⊎ (bs ≡ file_text es ++ crlf)
-    → rows_at_end (read_over bs) ≡ some es
+    → rows_at_end (read_over bs) ≡ Some es
 accepted bs es s (inl e) =
     ap (λ (x : List ℕ). rows_at_end (read_over x)) e
     ∙ ap (λ (w : Reading).
-    pick (is_start w.st) (some w.rows) (pick (is_start (read_over (file_text es)).st) (some (read_over (file_text es)).rows) none))
+    pick (is_start w.st) (Some w.rows) (pick (is_start (read_over (file_text es)).st) (Some (read_over (file_text es)).rows) None))
     (read-text es s)
 accepted bs es s (inr e) =
     ap (λ (x : List ℕ). rows_at_end (read_over x)) e ∙ ap rows_at_end (read-append (at (Head 0) []) (file_text es) crlf ∙ read-text es s)
 
 -- And the reverse.
-pub complete : (bs : List ℕ) (es : List Entry) → FileSays bs es → outcome bs ≡ some es
+pub complete : (bs : List ℕ) (es : List Entry) → FileSays bs es → outcome bs ≡ Some es
 complete bs es s =
     ap few_of (accepted bs es s.lawful s.written)
-    ∙ ap (λ (t : Bool). pick t none (some es)) (le-ltb segments_most (length es) s.few)
+    ∙ ap (λ (t : Bool). pick t None (Some es)) (le-ltb segments_most (length es) s.few)
 
 -- ---- so a file says one list of rows at most
 
 -- So the rows are determined.
 pub says-unique : OneList
 says-unique bs es fs s t =
-    let a : outcome bs ≡ some es = complete bs es s in
-    let b : outcome bs ≡ some fs = complete bs fs t in
+    let a : outcome bs ≡ Some es = complete bs es s in
+    let b : outcome bs ≡ Some fs = complete bs fs t in
     cc

@@ -4,10 +4,12 @@
 --   numbers_of es       == those of all rows, in their order
 --   numbers_most        == the most numbers
 --   schedule_of es      == the segments of the rows es, zeros behind, and their length
---   bare_schedule ok    == a schedule without segments; broken_schedule is the answer to a broken file
---   ReadSays bs r      r is the reader's answer to the file bs: the segments of the rows that it says, or broken where it says none
+--   listed r            == the numbers in the schedule r
+--   ReadSays bs r      r is the reader's answer to the file bs: the segments of the rows that it says, or 12 where it says none
 --   OneReading         a file has one such answer and no other: a statement about ReadSays
-use Rattle.std.specs.Prelude.{Bool, true, false, List, [], ◌∷◌, ◌++◌, ◌⊎◌, ◌≡◌, ℕ, ◌-◌, ◌*◌, length, replicate}
+use Rattle.std.specs.Prelude.{List, [], ◌∷◌, ◌++◌, ◌⊎◌, ◌≡◌, ℕ, ◌-◌, ◌*◌, length, replicate, take, Result, Ok, Err}
+use Rattle.demand.specs.declared.refusal.Refusal.{Refusal}
+use Rattle.demand.specs.declared.refusal.Refusal.TheVariants.{FileMalformed}
 use Rattle.demand.specs.declared.table.Kind.{Kind}
 use Rattle.demand.specs.declared.table.Kind.TheVariants.{Task, Handler}
 use Rattle.schedule_file.specs.File.{Entry, entry, FileSays, SaysNothing}
@@ -33,16 +35,13 @@ unfoldable pub filled : List ℕ → List ℕ
 filled s = s ++ replicate (numbers_most - length s) 0
 
 abbrev pub schedule_of : List Entry → Schedule
-schedule_of es = record { ok = true; len = length (numbers_of es); numbers = filled (numbers_of es) }
+schedule_of es = record { len = length (numbers_of es); numbers = filled (numbers_of es) }
 
-abbrev pub bare_schedule : Bool → Schedule
-bare_schedule ok = record { ok = ok; len = 0; numbers = filled [] }
+abbrev pub listed : Schedule → List ℕ
+listed r = take r.len r.numbers
 
-abbrev pub broken_schedule : Schedule
-broken_schedule = bare_schedule false
-
-unfoldable pub ReadSays : List ℕ → Schedule → Type 0
-ReadSays bs r = ((es : List Entry) × FileSays bs es × (r ≡ schedule_of es)) ⊎ (SaysNothing bs × (r ≡ broken_schedule))
+unfoldable pub ReadSays : List ℕ → Result Schedule Refusal → Type 0
+ReadSays bs r = ((es : List Entry) × FileSays bs es × (r ≡ Ok (schedule_of es))) ⊎ (SaysNothing bs × (r ≡ Err FileMalformed))
 
 abbrev pub OneReading : Type 0
-OneReading = (bs : List ℕ) (q r : Schedule) → ReadSays bs q → ReadSays bs r → q ≡ r
+OneReading = (bs : List ℕ) (q r : Result Schedule Refusal) → ReadSays bs q → ReadSays bs r → q ≡ r

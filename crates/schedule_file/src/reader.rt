@@ -1,12 +1,13 @@
-// The reader: bytes in, segments out, or the word that the file breaks the layout.
-ghost use Rattle.std.specs.Prelude.{false, [], ◌∷◌, ◌≡◌};
+// The reader: bytes in, segments out, or the refusal of a file that breaks the layout.
+ghost use Rattle.std.specs.Prelude.{[], ◌∷◌, ◌≡◌};
 ghost use Rattle.schedule_file.specs.File.{entry};
 ghost use Rattle.schedule_file.specs.Inside.Building.{added};
 ghost use Rattle.schedule_file.specs.Inside.Built.{Grows, Finishes, Closes};
-ghost use Rattle.schedule_file.specs.Schedule.{kind_number, filled, bare_schedule, ReadSays};
+ghost use Rattle.schedule_file.specs.Schedule.{kind_number, filled, listed, ReadSays};
 
 use crate::steps;
 use crate::steps::State;
+use demand::refusal::Refusal;
 use demand::table::Kind;
 
 // The most segments of a file.
@@ -15,29 +16,26 @@ const SEGMENTS_MOST: usize = 2048;
 // Four numbers a segment.
 pub const NUMBERS: usize = 4 * SEGMENTS_MOST;
 
-// What a file says, as segments: four numbers each, zeros behind, and how many numbers there are. Or that it breaks the layout.
+// What a file says, as segments: four numbers each, zeros behind, and how many numbers there are.
 #[derive(Clone, Copy)]
 pub struct Schedule {
-    pub ok: bool,
     pub len: usize,
     pub numbers: [u64; NUMBERS],
+}
+
+impl Schedule {
+    // The numbers of its segments.
+    pub fn numbers(&self) -> &[u64]
+        ensures { result.now ≡ listed self.now }
+    {
+        &self.numbers[..self.len.min(NUMBERS)]
+    }
 }
 
 fn zeros() -> [u64; NUMBERS]
     ensures { result ≡ filled [] }
 {
     [0; NUMBERS]
-}
-
-fn broken() -> Schedule
-    ensures { result ≡ bare_schedule false }
-{
-    let numbers = zeros();
-    Schedule {
-        ok: false,
-        len: 0,
-        numbers,
-    }
 }
 
 fn kind_number(kind: Kind) -> u64
@@ -79,21 +77,20 @@ fn feed(numbers: &mut [u64; NUMBERS], n: usize, st: State, b: u8) -> usize
 }
 
 // The schedule of n segments, where they are not too many.
-fn finished(numbers: [u64; NUMBERS], n: usize) -> Schedule
+fn finished(numbers: [u64; NUMBERS], n: usize) -> Result<Schedule, Refusal>
     ensures { Finishes n numbers result }
 {
     if SEGMENTS_MOST < n {
-        return broken();
+        return Err(Refusal::FileMalformed);
     }
-    Schedule {
-        ok: true,
+    Ok(Schedule {
         len: 4 * n,
         numbers,
-    }
+    })
 }
 
 // The schedule at the end of the file: a last line that lacks its CRLF is read as if it had it.
-fn close(numbers: [u64; NUMBERS], n: usize, st: State) -> Schedule
+fn close(numbers: [u64; NUMBERS], n: usize, st: State) -> Result<Schedule, Refusal>
     ensures { Closes n numbers st result }
 {
     let cr = steps::step(st, b'\r');
@@ -106,22 +103,19 @@ fn close(numbers: [u64; NUMBERS], n: usize, st: State) -> Schedule
     if steps::is_start(st) {
         return finished(numbers, n);
     }
-    broken()
+    Err(Refusal::FileMalformed)
 }
 
-// Reads a whole file: the segments of the rows that it says, or the broken schedule where it breaks the layout.
-pub fn read(bytes: &[u8]) -> Schedule
+// Reads a whole file: the segments of the rows that it says, or the refusal where it breaks the layout.
+pub fn read(bytes: &[u8]) -> Result<Schedule, Refusal>
     ensures { ReadSays bytes.now result }
 {
     let mut numbers = zeros();
     let mut n: usize = 0;
     let mut st = State::Head(0);
-    let mut i: usize = 0;
-    while i < bytes.len() {
-        let b = bytes[i];
-        n = feed(&mut numbers, n, st, b);
-        st = steps::step(st, b);
-        i += 1;
+    for b in bytes {
+        n = feed(&mut numbers, n, st, *b);
+        st = steps::step(st, *b);
     }
     close(numbers, n, st)
 }

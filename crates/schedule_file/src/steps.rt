@@ -1,5 +1,5 @@
 // The layout of a file, byte by byte: where a reader stands, and where the next byte takes it.
-ghost use Rattle.std.specs.Prelude.{◌≡◌, get_or};
+ghost use Rattle.std.specs.Prelude.{◌≡◌};
 ghost use Rattle.schedule_file.specs.File.{header};
 ghost use Rattle.schedule_file.specs.Inside.Steps.{behind, after, after_byte, is_start};
 
@@ -8,10 +8,6 @@ use text::digits;
 
 // The first number that has more digits than a field may have: 10 are the most.
 const NUMBER_LIMIT: u64 = 10_000_000_000;
-
-const HEADER_LEN: usize = 11;
-
-const HEADER: [u8; HEADER_LEN] = *b"row,from,to";
 
 // Which number of a row: its kind, and the numbers before it.
 #[derive(Clone, Copy)]
@@ -40,18 +36,18 @@ pub enum State {
     RowCr(Kind, u64, u64, u64),
 }
 
-// The byte at a place of the header, or 0 past its end.
-fn header_byte(k: usize) -> u8
-    ensures { result ≡ get_or header k 0 }
+fn header() -> &'static [u8]
+    ensures { result.now ≡ header }
 {
-    if k < HEADER_LEN { HEADER[k] } else { 0 }
+    b"row,from,to"
 }
 
 fn in_head(k: usize, b: u8) -> State
     ensures { result ≡ after_byte (State.Head k) b }
 {
-    if k < HEADER_LEN {
-        if b == header_byte(k) {
+    let header = header();
+    if k < header.len() {
+        if b == header[k] {
             State::Head(k + 1)
         } else {
             State::Broken
@@ -112,7 +108,7 @@ fn in_first(place: Place, b: u8) -> State
     ensures { result ≡ after_byte (State.First place) b }
 {
     if digits::is_digit(b) {
-        State::Digits(place, digits::worth(b) as u64)
+        State::Digits(place, u64::from(digits::worth(b)))
     } else {
         State::Broken
     }
@@ -149,8 +145,5 @@ pub fn step(st: State, b: u8) -> State
 pub fn is_start(st: State) -> bool
     ensures { result ≡ is_start st }
 {
-    match st {
-        State::Start => true,
-        _ => false,
-    }
+    matches!(st, State::Start)
 }

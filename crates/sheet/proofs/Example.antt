@@ -5,6 +5,7 @@ use mathlib.Core.Logic.{inl, inr}
 use mathlib.Core.Path.{◌≡◌, refl, ◌∙◌}
 use native.Mathlib.Omega.{arith}
 use Prim.Native.Nat.{ℕ}
+use Rattle.std.specs.Prelude.{None}
 use Rattle.demand.specs.declared.table.Kind.TheVariants.{Task, Handler}
 use Rattle.layout.specs.File.{Entry, entry, FileSays}
 use Rattle.layout.specs.declared.steps.Last.TheVariants.{NoField, Empty, Number}
@@ -13,6 +14,7 @@ use Rattle.sheet.specs.Example.{case_nine, case_nine_four, case_nine_sheet, Prin
 use Rattle.sheet.specs.Printed.{lines, printed}
 use Rattle.sheet.specs.Whole.{TableFigures, FileFigures, output_of}
 use Rattle.text.specs.Numbers.{decimal}
+use Rattle.text.specs.Reasons.{reason}
 use Rattle.text.specs.Text.{text_of}
 use Rattle.verdict.specs.Cases.{cases, plain}
 use Rattle.verdict.specs.Promise.{Figures, no_of}
@@ -59,10 +61,10 @@ unfolding sheet printed lines decimal
 printed-lines = refl
 
 prints : (bs : List ℕ) → FileFigures bs sheet → Prints bs case_nine_sheet
-unfolding sheet
+unfolding sheet reason
 prints bs figures out s =
     sheet-unique bs out (output_of sheet) s (record { sheet = sheet; figures = figures; written = refl })
-    ∙ λ i. record { text = text_of (printed-lines i); refusal = 0 }
+    ∙ λ i. record { text = text_of (printed-lines i); refusal = None }
 
 pub case-nine : CaseNinePrints
 unfolding rows four_rows

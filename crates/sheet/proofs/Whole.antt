@@ -1,80 +1,66 @@
 -- The whole: the output meets the sheet's promise, and the promise allows no other.
 use mathlib.Core.Bool.{Bool, true, false}
 use mathlib.Core.List.{List}
-use mathlib.Core.Logic.{inl, inr}
-use mathlib.Core.Path.{◌≡◌, refl, sym, ap, subst, ◌∙◌}
-use native.Mathlib.Omega.{arith}
+use mathlib.Core.Logic.{◌⊎◌, inl, inr}
+use Rattle.std.specs.Prelude.{Option, Result, Ok, Err}
+use Rattle.std.specs.Result.{result_err}
+use mathlib.Core.Path.{◌≡◌, sym, ap, subst, ◌∙◌}
 use Prim.Native.Nat.{ℕ}
-use borrow.Author.Tests.{eq-eqb, ne_eqb}
-use Rattle.demand.specs.Refusals.{table_refusal}
-use Rattle.demand.specs.Tests.{pick}
+use Rattle.demand.specs.Numbered.{number_of}
+use Rattle.demand.specs.declared.refusal.Refusal.{Refusal}
+use Rattle.demand.specs.declared.refusal.Refusal.TheVariants.{FileMalformed}
 use Rattle.demand.specs.declared.table.Kind.TheVariants.{Task, Handler}
-use Rattle.layout.specs.File.{Entry}
-use Rattle.layout.specs.Table.{list_of, misplaced, ReadSays}
+use Rattle.layout.specs.File.{Entry, SaysNothing}
+use Rattle.layout.specs.Refusals.{Misplaces, TableIn}
+use Rattle.layout.specs.Table.{list_of, misplaced, listed}
 use Rattle.layout.specs.declared.reader.Table.{Table}
 use Rattle.sheet.specs.Printed.{printed}
-use Rattle.sheet.specs.Whole.{misplaced_refusal, TableFigures, FileFigures, output_of, SheetSays, OneSheet}
-use Rattle.sheet.specs.declared.Output.{Output}
-use Rattle.text.specs.Text.{Fits}
-use Rattle.verdict.specs.Promise.{Figures, figures, refusal_of, VerdictSays}
+use Rattle.sheet.specs.Whole.{TableFigures, FileFigures, output_of, SheetSays, OneSheet}
+use Rattle.text.specs.Reasons.{reason}
+use Rattle.text.specs.Text.{text_of}
+use Rattle.text.specs.declared.Text.{Text}
+use Rattle.verdict.specs.Promise.{Figures, figures, refusal_of, Says, VerdictSays}
 use Rattle.verdict.specs.declared.Answer.{Answer}
 use Rattle.verdict.specs.declared.Answer.TheVariants as answer
 use Rattle.layout.proofs.File.{says-unique}
-use Rattle.layout.proofs.Table.{listed, flat-listed}
-use Rattle.text.proofs.Writes.{text-fits}
+use Rattle.layout.proofs.Table.{table-lists, table-refused}
+use Rattle.text.proofs.Reasons.{reason-none, reason-some}
 use Rattle.verdict.proofs.Promise as verdict
 
 -- ---- the output meets the promise
 
-clash : (P : Type 0) → true ≡ false → P
-clash P e =
-    let z : ◌≡◌ {A = ℕ} 0 1 = cc in
-    let f : ⊥ = omega arith in
-    absurd f
+-- What is refused,
+pub file-refused : (bs : List ℕ) (e : Refusal) → TableIn bs (Err e) → FileFigures bs (figures (Err e))
+unfolding TableFigures figures
+file-refused bs e told = go (table-refused bs e told)
+  where
+    go : Misplaces bs e ⊎ (SaysNothing bs × (e ≡ FileMalformed)) → FileFigures bs (figures (Err e))
+    go (inl m) =
+        inl (m.rows, m.says, subst (λ (b : Bool). TableFigures b (list_of Task m.rows) (list_of Handler m.rows) (figures (Err e))) (sym m.placed) (ap refusal_of m.number))
+    go (inr n) = inr (n.0, ap (λ (x : Refusal). refusal_of (number_of x)) n.1)
 
-module _ (bs : List ℕ) (t : Table) (out : Output) where
-  pub broken-sheet : ReadSays bs t → t.ok ≡ false → out ≡ output_of (figures (answer.Refused 12)) → SheetSays bs out
-  unfolding ReadSays figures
-  broken-sheet (inl r) broken e = clash _ (sym (ap (λ (x : Table). x.ok) r.2) ∙ broken)
-  broken-sheet (inr r) broken e = record { sheet = refusal_of 12; figures = inr (r.0, refl); written = e }
+-- and the verdict on what is lent.
+pub file-judged : (bs : List ℕ) (t : Table) (ts hs : List ℕ) (r : Result Answer Refusal) → TableIn bs (Ok t)
+    → ts ≡ listed t.tasks → hs ≡ listed t.handlers → VerdictSays ts hs r → FileFigures bs (figures r)
+unfolding TableFigures VerdictSays
+file-judged bs t ts hs r told tasks handlers says =
+    let l = table-lists bs t told in
+    let lent : Says (list_of Task l.rows) (list_of Handler l.rows) (figures r) =
+    subst (λ (s : List ℕ). Says s (list_of Handler l.rows) (figures r)) (tasks ∙ l.tasks)
+    (subst (λ (s : List ℕ). Says ts s (figures r)) (handlers ∙ l.handlers) says) in
+    inl (l.rows, l.says, subst (λ (b : Bool). TableFigures b (list_of Task l.rows) (list_of Handler l.rows) (figures r)) (sym l.placed) lent)
 
-  pub table-sheet : ReadSays bs t → t.ok ≡ true → (a : Answer) →
-      TableFigures t.misplaced (listed t.tasks) (listed t.handlers) (figures a) → out ≡ output_of (figures a) → SheetSays bs out
-  unfolding ReadSays
-  table-sheet (inl r) ok a says e =
-      let deadline : t.misplaced ≡ misplaced r.0 = ap (λ (x : Table). x.misplaced) r.2 in
-      let tasks : listed t.tasks ≡ list_of Task r.0 = ap (λ (x : Table). listed x.tasks) r.2 ∙ flat-listed (list_of Task r.0) in
-      let handlers : listed t.handlers ≡ list_of Handler r.0 = ap (λ (x : Table). listed x.handlers) r.2 ∙ flat-listed (list_of Handler r.0) in
-      let told : TableFigures (misplaced r.0) (list_of Task r.0) (list_of Handler r.0) (figures a) =
-      subst (λ (m : Bool). TableFigures m (list_of Task r.0) (list_of Handler r.0) (figures a)) deadline
-      (subst (λ (s : List ℕ). TableFigures t.misplaced (list_of Task r.0) s (figures a)) handlers
-      (subst (λ (s : List ℕ). TableFigures t.misplaced s (listed t.handlers) (figures a)) tasks says)) in
-      record { sheet = figures a; figures = inl (r.0, r.1, told); written = e }
-  table-sheet (inr r) ok a says e = clash _ (sym ok ∙ ap (λ (x : Table). x.ok) r.1)
+reason-of : (r : Result Answer Refusal) → result_err r ≡ reason (figures r).code
+unfolding figures
+reason-of (Ok (answer.Fits load tested)) = reason-none
+reason-of (Ok (answer.Misses miss load)) = reason-none
+reason-of (Err e) = reason-some e
 
--- ---- the answer to a table, by whether a handler has a deadline
-
-module _ (t h : List ℕ) (a : Answer) where
-  pub placed-answer : (m : Bool) → m ≡ false → VerdictSays t h a → TableFigures m t h (figures a)
-  unfolding TableFigures VerdictSays
-  placed-answer true e says = clash _ e
-  placed-answer false e says = says
-
-  misplaced-answer : (m : Bool) (n : ℕ) → m ≡ true → n ≡ misplaced_refusal t h → a ≡ answer.Refused n → TableFigures m t h (figures a)
-  unfolding TableFigures figures
-  misplaced-answer true n e number told = ap figures told ∙ ap refusal_of number
-  misplaced-answer false n e number told = clash _ (sym e)
-
-  -- Where the table's own refusal is k.
-  pub misplaced-thirteen : (m : Bool) (k : ℕ) → m ≡ true → k ≡ table_refusal t h → k ≡ 0 → a ≡ answer.Refused 13 →
-      TableFigures m t h (figures a)
-  misplaced-thirteen m k e own none told =
-      misplaced-answer m 13 e (sym (ap (λ (b : Bool). pick b 13 (table_refusal t h)) (eq-eqb _ _ (sym own ∙ none)))) told
-
-  pub misplaced-own : (m : Bool) (k : ℕ) → m ≡ true → k ≡ table_refusal t h → (k ≡ 0 → ⊥) → a ≡ answer.Refused k →
-      TableFigures m t h (figures a)
-  misplaced-own m k e own some told =
-      misplaced-answer m k e (own ∙ sym (ap (λ (b : Bool). pick b 13 (table_refusal t h)) (ne_eqb _ _ (λ z. some (own ∙ z))))) told
+-- What is written of it.
+pub sheet-says : (bs : List ℕ) (r : Result Answer Refusal) (text : Text) (refusal : Option Refusal) → FileFigures bs (figures r)
+    → text ≡ text_of (printed (figures r)) → refusal ≡ result_err r → SheetSays bs (record { text = text; refusal = refusal })
+sheet-says bs r text refusal told lines e =
+    record { sheet = figures r; figures = told; written = λ i. record { text = lines i; refusal = (e ∙ reason-of r) i } }
 
 -- ---- and no other does
 
@@ -94,8 +80,3 @@ file-unique bs f g (inr a) (inr b) = a.1 ∙ sym b.1
 
 pub sheet-unique : OneSheet
 sheet-unique bs a b s t = s.written ∙ ap output_of (file-unique bs s.sheet t.sheet s.figures t.figures) ∙ sym t.written
-
--- ---- what a program writes of it
-
-pub sheet-fits : (bs : List ℕ) (out : Output) → SheetSays bs out → Fits out.text
-sheet-fits bs out s = text-fits (printed s.sheet) out.text (ap (λ (o : Output). o.text) s.written)

@@ -4,7 +4,7 @@
 --   case_nine_sheet   == the two lines that 01 prints for it
 --   Prints bs ls    the sheet's promise allows the lines ls for the file bs and nothing else
 --   CaseNinePrints  both files print those lines
-use Rattle.std.specs.Prelude.{List, ◌++◌, ◌≡◌, ℕ}
+use Rattle.std.specs.Prelude.{List, ◌++◌, ◌≡◌, ℕ, None}
 use Rattle.sheet.specs.Whole.{SheetSays}
 use Rattle.sheet.specs.declared.Output.{Output}
 use Rattle.text.specs.Ascii.{ascii, crlf}
@@ -28,7 +28,7 @@ abbrev pub case_nine_sheet : List ℕ
 case_nine_sheet = ascii "verdict,code,interval,handler,task,load,left,tested" ++ crlf ++ ascii "misses,0,10,3,8,1150000,0,3" ++ crlf
 
 abbrev pub Prints : List ℕ → List ℕ → Type 0
-Prints bs ls = (out : Output) → SheetSays bs out → out ≡ record { text = text_of ls; refusal = 0 }
+Prints bs ls = (out : Output) → SheetSays bs out → out ≡ record { text = text_of ls; refusal = None }
 
 abbrev pub CaseNinePrints : Type 0
 CaseNinePrints = Prints case_nine case_nine_sheet × Prints case_nine_four case_nine_sheet

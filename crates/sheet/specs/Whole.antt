@@ -3,7 +3,7 @@
 --   TableFigures m t h g  g are the figures of the table t, h: that refusal's where m says that a handler has a deadline,
 --                         else the verdict's
 --   FileFigures bs g      g are the figures of the file bs: those of the table that it says; 12 comes before all
---   output_of g            == what is written of the figures g: their two lines, and the number of the refusal
+--   output_of g            == what is written of the figures g: their two lines, and the refusal
 --   SheetSays bs out      out is what is written of the file bs
 --   OneSheet              a file has one output and no other: a statement about SheetSays
 use Rattle.std.specs.Prelude.{Bool, true, false, List, ◌⊎◌, ◌≡◌, ℕ, eqb}
@@ -14,6 +14,7 @@ use Rattle.layout.specs.File.{Entry, FileSays, SaysNothing}
 use Rattle.layout.specs.Table.{list_of, misplaced}
 use Rattle.sheet.specs.Printed.{printed}
 use Rattle.sheet.specs.declared.Output.{Output}
+use Rattle.text.specs.Reasons.{reason}
 use Rattle.text.specs.Text.{text_of}
 use Rattle.verdict.specs.Promise.{Figures, refusal_of, Says}
 
@@ -31,7 +32,7 @@ FileFigures bs g =
     ⊎ (SaysNothing bs × (g ≡ refusal_of 12))
 
 abbrev pub output_of : Figures → Output
-output_of g = record { text = text_of (printed g); refusal = g.code }
+output_of g = record { text = text_of (printed g); refusal = reason g.code }
 
 pub record SheetSays (bs : List ℕ) (out : Output) : Type 0 where
   pub sheet : Figures

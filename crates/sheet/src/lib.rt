@@ -3,71 +3,36 @@
 
 pub mod lines;
 
-ghost use Rattle.std.specs.Prelude.{◌≡◌};
-ghost use Rattle.sheet.specs.Whole.{TableFigures, output_of, SheetSays};
+ghost use Rattle.sheet.specs.Whole.{FileFigures, SheetSays};
 ghost use Rattle.verdict.specs.Promise.{figures};
 
+use demand::refusal::Refusal;
 use layout::reader;
 use text::Text;
 use verdict::Answer;
 
-// What is written: the two lines, and the number of the refusal, 0 for none.
+// What is written: the two lines, and the refusal that they tell of.
 #[derive(Clone, Copy)]
 pub struct Output {
     pub text: Text,
-    pub refusal: u32,
+    pub refusal: Option<Refusal>,
 }
 
-// From the bytes of a file to the bytes of its sheet; a file that breaks the layout is refused before all.
+// From the bytes of a file to the bytes of its sheet.
 pub fn sheet(input: &[u8]) -> Output
     ensures { SheetSays input.now result }
 {
-    let table = reader::read(input);
-    let ok = table.ok;
-    if !ok {
-        return written(Answer::Refused { number: 12 });
-    }
-    let misplaced = table.misplaced;
-    let tasks = table.tasks;
-    let handlers = table.handlers;
-    let task_numbers = tasks.numbers;
-    let handler_numbers = handlers.numbers;
-    let n = tasks.len;
-    let m = handlers.len;
-    written(answer(misplaced, &task_numbers[..n], &handler_numbers[..m]))
-}
-
-// The answer to a table: the verdict, or a refusal where a handler has a deadline, 13 unless a lower number applies.
-fn answer(misplaced: bool, tasks: &[u32], handlers: &[u32]) -> Answer
-    ensures { TableFigures misplaced tasks.now handlers.now (figures result) }
-{
-    if !misplaced {
-        return verdict::verdict(tasks, handlers);
-    }
-    let number = demand::refusal::of_table(tasks, handlers);
-    if number == 0 {
-        Answer::Refused { number: 13 }
-    } else {
-        Answer::Refused { number }
+    let answer = answer(input);
+    Output {
+        text: lines::of_answer(answer),
+        refusal: answer.err(),
     }
 }
 
-// What is written of an answer.
-fn written(answer: Answer) -> Output
-    ensures { result ≡ output_of (figures answer) }
+// The verdict on the table that a file says; a file that breaks the layout is refused before all.
+fn answer(input: &[u8]) -> Result<Answer, Refusal>
+    ensures { FileFigures input.now (figures result) }
 {
-    let text = lines::of_answer(answer);
-    let refusal = refusal_of(answer);
-    Output { text, refusal }
-}
-
-// The number of an answer's refusal, 0 for none.
-fn refusal_of(answer: Answer) -> u32
-    ensures { result ≡ (figures answer).code }
-{
-    match answer {
-        Answer::Fits { .. } => 0,
-        Answer::Misses { .. } => 0,
-        Answer::Refused { number } => number,
-    }
+    let table = reader::table_in(input)?;
+    verdict::verdict(table.tasks(), table.handlers())
 }

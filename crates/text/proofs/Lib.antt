@@ -3,3 +3,4 @@ pub mod Numbers
 pub mod Writes
 pub mod Phrases
 pub mod Spellings
+pub mod Reasons

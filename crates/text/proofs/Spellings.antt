@@ -9,49 +9,82 @@ use borrow.Author.Tests.{le-ltb}
 use Prim.Native.Nat.{ℕ, zero, suc, ◌+◌, ◌-◌, ◌*◌, ◌/◌, ◌%◌, ◌^◌, ◌≤◌, ◌<◌}
 use lib.Dec.{ltb}
 use lib.ListN.{length, get_or, drop}
-use lib.Seq.{drop-cons, drop-length}
+use lib.Seq.{drop-cons}
+use Rattle.std.proofs.lemmas.List.{drop_all}
 use Rattle.demand.specs.Tests.{pick}
 use Rattle.demand.proofs.Divide.{le-or-lt}
 use Rattle.text.specs.Numbers.{is_digit, continues, decimal}
-use Rattle.text.specs.Spelled.{digits_from, spelled, SpelledRead}
+use Rattle.std.specs.Prelude.{Option, Some, None, unwrap_or}
+use Rattle.text.specs.Spelled.{digits_from, spelled, digits_said, said, Spells, SpelledRead}
 use Rattle.text.proofs.Numbers.{digit-is, continues-is, decimal-one, decimal-next, decimal-least}
 
 -- ---- byte by byte
 
-module _ (limit : ℕ) (bs : List ℕ) (i v : ℕ) (inside : i < length bs) where
-  abbrev further : ℕ
-  further = digits_from limit (v * 10 + (get_or bs i 0 - 48)) (drop (i + 1) bs)
+module _ (limit v : ℕ) (bs : List ℕ) (i : ℕ) where
+  abbrev further : Option ℕ
+  further = digits_said limit (v * 10 + (get_or bs i 0 - 48)) (drop (i + 1) bs)
 
-  digits-here : digits_from limit v (drop i bs) ≡ pick (continues limit v (get_or bs i 0)) further limit
-  unfolding digits_from
-  digits-here =
-      ap (digits_from limit v) (drop-cons bs i 0 inside)
-      ∙ ap (λ (k : ℕ). pick (continues limit v (get_or bs i 0)) (digits_from limit (v * 10 + (get_or bs i 0 - 48)) (drop k bs)) limit) (sym (add-one i))
+  digits-here : i < length bs → digits_said limit v (drop i bs) ≡ pick (continues limit v (get_or bs i 0)) further None
+  unfolding digits_said
+  digits-here inside =
+      ap (digits_said limit v) (drop-cons bs i 0 inside)
+      ∙ ap (λ (k : ℕ). pick (continues limit v (get_or bs i 0)) (digits_said limit (v * 10 + (get_or bs i 0 - 48)) (drop k bs)) None) (sym (add-one i))
 
   -- A byte that cannot go on ends it,
-  pub digits-stop : continues limit v (get_or bs i 0) ≡ false → digits_from limit v (drop i bs) ≡ limit
-  digits-stop e = digits-here ∙ ap (λ (b : Bool). pick b further limit) e
+  pub digits-stop : i < length bs → continues limit v (get_or bs i 0) ≡ false → digits_said limit v (drop i bs) ≡ None
+  digits-stop inside e = digits-here inside ∙ ap (λ (b : Bool). pick b further None) e
 
   -- a digit takes it on.
-  pub digits-on : continues limit v (get_or bs i 0) ≡ true → digits_from limit v (drop i bs) ≡ further
-  digits-on e = digits-here ∙ ap (λ (b : Bool). pick b further limit) e
+  pub digits-on : i < length bs → continues limit v (get_or bs i 0) ≡ true → digits_said limit v (drop i bs) ≡ further
+  digits-on inside e = digits-here inside ∙ ap (λ (b : Bool). pick b further None) e
 
-pub digits-end : (limit : ℕ) (bs : List ℕ) (i v : ℕ) → length bs ≡ i → digits_from limit v (drop i bs) ≡ v
-unfolding digits_from
-digits-end limit bs i v e = ap (λ (k : ℕ). digits_from limit v (drop k bs)) (sym e) ∙ ap (digits_from limit v) (drop-length bs)
+  pub digits-end : length bs ≤ i → digits_said limit v (drop i bs) ≡ Some v
+  unfolding digits_said
+  digits-end past = ap (digits_said limit v) (drop_all i bs past)
 
--- ---- the first byte
+-- ---- none, and the limit for none
 
-pub spelled-nothing : (limit : ℕ) (bs : List ℕ) → length bs ≡ 0 → spelled limit bs ≡ limit
-unfolding spelled
-spelled-nothing limit [] e = refl
-spelled-nothing limit (b ∷ bs) e = absurd (omega arith)
+digits-or : (limit v : ℕ) (bs : List ℕ) → unwrap_or (digits_said limit v bs) limit ≡ digits_from limit v bs
+unfolding digits_said digits_from
+digits-or limit v [] = refl
+digits-or limit v (b ∷ bs) = go (continues limit v b) (digits-or limit (v * 10 + (b - 48)) bs)
+  where
+    go : (c : Bool) → unwrap_or (digits_said limit (v * 10 + (b - 48)) bs) limit ≡ digits_from limit (v * 10 + (b - 48)) bs
+        → unwrap_or (pick c (digits_said limit (v * 10 + (b - 48)) bs) None) limit ≡ pick c (digits_from limit (v * 10 + (b - 48)) bs) limit
+    go true rest = rest
+    go false rest = refl
 
-pub spelled-first : (limit : ℕ) (bs : List ℕ) → 1 ≤ length bs
-    → spelled limit bs ≡ pick (is_digit (get_or bs 0 0)) (digits_from limit (get_or bs 0 0 - 48) (drop 1 bs)) limit
-unfolding spelled
-spelled-first limit [] h = absurd (omega arith)
-spelled-first limit (b ∷ bs) h = refl
+said-or : (limit : ℕ) (bs : List ℕ) → unwrap_or (said limit bs) limit ≡ spelled limit bs
+unfolding said spelled
+said-or limit [] = refl
+said-or limit (b ∷ bs) = go (is_digit b)
+  where
+    go : (d : Bool) → unwrap_or (pick d (digits_said limit (b - 48) bs) None) limit ≡ pick d (digits_from limit (b - 48) bs) limit
+    go true = digits-or limit (b - 48) bs
+    go false = refl
+
+pub spells : (limit : ℕ) (bs : List ℕ) (r : Option ℕ) → r ≡ said limit bs → Spells limit bs r
+spells limit bs r e = (e, ap (λ (o : Option ℕ). unwrap_or o limit) e ∙ said-or limit bs)
+
+-- ---- what is read, from the first byte on
+
+pub spells-nothing : (limit : ℕ) (bs : List ℕ) → length bs ≡ 0 → Spells limit bs None
+unfolding said
+spells-nothing limit [] e = spells limit [] None refl
+spells-nothing limit (b ∷ bs) e = absurd (omega arith)
+
+module _ (limit : ℕ) (bs : List ℕ) (b : ℕ) (rest : List ℕ) (r : Option ℕ) (parts : bs ≡ b ∷ rest) where
+  spells-parts : r ≡ pick (is_digit b) (digits_said limit (b - 48) rest) None → Spells limit bs r
+  unfolding said
+  spells-parts f = spells limit bs r (f ∙ sym (ap (said limit) parts))
+
+  pub spells-stop : is_digit b ≡ false → r ≡ None → Spells limit bs r
+  spells-stop e f = spells-parts (f ∙ sym (ap (λ (t : Bool). pick t (digits_said limit (b - 48) rest) None) e))
+
+  pub spells-on : is_digit b ≡ true → (v : ℕ) → v ≡ b - 48 → r ≡ digits_said limit v rest → Spells limit bs r
+  spells-on e v w f =
+      spells-parts
+      (f ∙ ap (λ (n : ℕ). digits_said limit n rest) w ∙ sym (ap (λ (t : Bool). pick t (digits_said limit (b - 48) rest) None) e))
 
 -- ---- a number in decimal
 

@@ -9,3 +9,5 @@ pub mod Text
 pub mod English
 -- numbers as they are spelled
 pub mod Spelled
+-- why there is no answer
+pub mod Reasons

@@ -5,7 +5,7 @@ ghost use Rattle.text.specs.Numbers.{is_digit, continues};
 pub fn is_digit(b: u8) -> bool
     ensures { result ≡ is_digit b }
 {
-    (b'0' <= b) & (b <= b'9')
+    b.is_ascii_digit()
 }
 
 // What a digit is worth.
@@ -13,7 +13,7 @@ pub fn worth(b: u8) -> u32
     requires { is_digit b ≡ true }
     ensures { result ≡ b - 48 }
 {
-    (b - b'0') as u32
+    u32::from(b - b'0')
 }
 
 // May b stand behind the digits of v, in a number below the limit? No digit stands behind a leading zero.
@@ -28,5 +28,5 @@ pub fn extended(limit: u64, v: u64, b: u8) -> u64
     requires { continues limit v b ≡ true }
     ensures { result ≡ v * 10 + (b - 48) }
 {
-    v * 10 + worth(b) as u64
+    v * 10 + u64::from(worth(b))
 }

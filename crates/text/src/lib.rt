@@ -5,7 +5,7 @@ pub mod digits;
 pub mod english;
 pub mod spelled;
 
-ghost use Rattle.std.specs.Prelude.{◌≡◌, ◌+◌, ◌<◌};
+ghost use Rattle.std.specs.Prelude.{◌≡◌, ◌+◌, ◌<◌, get_or, take};
 ghost use Rattle.text.specs.Numbers.{decimal, fields_of};
 ghost use Rattle.text.specs.Text.{blank_text, put_of, puts_of};
 
@@ -17,6 +17,15 @@ pub const TEXT_MOST: usize = 224;
 pub struct Text {
     pub bytes: [u8; TEXT_MOST],
     pub len: usize,
+}
+
+impl Text {
+    // Its bytes.
+    pub fn as_bytes(&self) -> &[u8]
+        ensures { result.now ≡ take self.now.len self.now.bytes }
+    {
+        &self.bytes[..self.len.min(TEXT_MOST)]
+    }
 }
 
 pub fn blank() -> Text
@@ -47,11 +56,8 @@ pub fn puts(text: Text, s: &[u8]) -> Text
     ensures { result ≡ puts_of text s.now }
 {
     let mut out = text;
-    let mut i: usize = 0;
-    while i < s.len() {
-        let b = s[i];
-        out = put(out, b);
-        i += 1;
+    for b in s {
+        out = put(out, *b);
     }
     out
 }
@@ -61,6 +67,13 @@ pub fn of(s: &[u8]) -> Text
     ensures { result ≡ puts_of blank_text s.now }
 {
     puts(blank(), s)
+}
+
+// The byte at a place, or 0 past the end.
+pub fn byte_at(bytes: &[u8], i: usize) -> u8
+    ensures { result ≡ get_or bytes.now i 0 }
+{
+    bytes.get(i).copied().unwrap_or(0)
 }
 
 fn digit(n: u64) -> u8
@@ -86,11 +99,8 @@ pub fn fields(text: Text, figures: &[u64]) -> Text
     ensures { result ≡ puts_of text (fields_of figures.now) }
 {
     let mut out = text;
-    let mut i: usize = 0;
-    while i < figures.len() {
-        let n = figures[i];
-        out = number(put(out, b','), n);
-        i += 1;
+    for n in figures {
+        out = number(put(out, b','), *n);
     }
     out
 }

@@ -1,4 +1,3 @@
-pub mod Named
 pub mod NamesRead
 pub mod Printed
 pub mod Written

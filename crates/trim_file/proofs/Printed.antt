@@ -17,8 +17,11 @@ abbrev pub lines_most : ℕ
 lines_most = 128
 
 -- Four parts in one.
-four : (t : Text) (a b c d : List ℕ) → puts_of (puts_of (puts_of (puts_of t a) b) c) d ≡ puts_of t (a ++ (b ++ (c ++ d)))
-four t a b c d = simp (← puts-append, append_assoc)
+pub four : (a b c d : List ℕ) {x y z r : Text} → x ≡ puts_of blank_text a → y ≡ puts_of x b → z ≡ puts_of y c → r ≡ puts_of z d
+    → r ≡ puts_of blank_text (a ++ (b ++ (c ++ d)))
+four a b c d e f g h =
+    let gathered : puts_of (puts_of (puts_of (puts_of blank_text a) b) c) d ≡ puts_of blank_text (a ++ (b ++ (c ++ d))) = simp (← puts-append, append_assoc) in
+    cc gathered
 
 four-most : (x y z : List ℕ) → length x ≤ 20 → length y ≤ 63 → length z ≤ 7 → length (heading ++ (x ++ (y ++ z))) ≤ lines_most
 four-most x y z a b c = omega (arith, length-append heading (x ++ (y ++ z)), length-append x (y ++ z), length-append y z)
@@ -28,13 +31,10 @@ module _ (row code old new : ℕ) where
   unfolding cost_lines
   cost-most = four-most (decimal row) (fields_of (code ∷ old ∷ new ∷ [])) crlf (decimal-most row) (fields-most (code ∷ old ∷ new ∷ [])) (omega arith)
 
-  pub cost-written : {a b c r : Text} → a ≡ puts_of blank_text heading → b ≡ puts_of a (decimal row) → c ≡ puts_of b (fields_of (code ∷ old ∷ new ∷ []))
-      → r ≡ puts_of c crlf → r ≡ text_of (cost_lines row code old new)
+  pub cost-written : {r : Text} → r ≡ puts_of blank_text (heading ++ (decimal row ++ (fields_of (code ∷ old ∷ new ∷ []) ++ crlf)))
+      → r ≡ text_of (cost_lines row code old new)
   unfolding cost_lines
-  cost-written {r = r} e1 e2 e3 e =
-      let all : r ≡ puts_of blank_text (cost_lines row code old new) =
-      cc (four blank_text heading (decimal row) (fields_of (code ∷ old ∷ new ∷ [])) crlf) in
-      all ∙ puts-blank (cost_lines row code old new) (omega (arith, cost-most))
+  cost-written e = e ∙ puts-blank (cost_lines row code old new) (omega (arith, cost-most))
 
 module _ (row old : ℕ) where
   pub none-most : length (none_lines row old) ≤ lines_most
@@ -43,10 +43,7 @@ module _ (row old : ℕ) where
       four-most (decimal row) (fields_of (0 ∷ old ∷ [])) (ascii ",none" ++ crlf) (decimal-most row)
       (omega (arith, fields-most (0 ∷ old ∷ []))) (omega arith)
 
-  pub none_written : {a b c r : Text} → a ≡ puts_of blank_text heading → b ≡ puts_of a (decimal row) → c ≡ puts_of b (fields_of (0 ∷ old ∷ []))
-      → r ≡ puts_of c (ascii ",none" ++ crlf) → r ≡ text_of (none_lines row old)
+  pub none_written : {r : Text} → r ≡ puts_of blank_text (heading ++ (decimal row ++ (fields_of (0 ∷ old ∷ []) ++ (ascii ",none" ++ crlf))))
+      → r ≡ text_of (none_lines row old)
   unfolding none_lines
-  none_written {r = r} e1 e2 e3 e =
-      let all : r ≡ puts_of blank_text (none_lines row old) =
-      cc (four blank_text heading (decimal row) (fields_of (0 ∷ old ∷ [])) (ascii ",none" ++ crlf)) in
-      all ∙ puts-blank (none_lines row old) (omega (arith, none-most))
+  none_written e = e ∙ puts-blank (none_lines row old) (omega (arith, none-most))

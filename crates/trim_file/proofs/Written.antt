@@ -6,6 +6,12 @@ use native.Mathlib.Omega.{arith}
 use Prim.Native.Nat.{ℕ, ◌+◌, ◌-◌, ◌≤◌}
 use lib.ListN.{length, length-append, length-replicate, length-drop, replicate, take, drop}
 use lib.Seq.{take-append_seam, length-take-le}
+use Rattle.std.specs.Prelude.{Option, Some, None, Result, Ok}
+use Rattle.trim.specs.declared.Cut.{Cut}
+use Rattle.demand.specs.Numbered.{number_of}
+use Rattle.text.proofs.Reasons.{reason-some}
+use Rattle.demand.specs.declared.refusal.Refusal.{Refusal}
+use Rattle.text.specs.Reasons.{reason}
 use Rattle.page.specs.Laid.{end_of, laid}
 use Rattle.page.proofs.Laid.{end-room, laid-room, laid-append, laid-length}
 use Rattle.recost.specs.Inside.Scan.{cost_from, recosted}
@@ -13,20 +19,15 @@ use Rattle.text.specs.Numbers.{decimal}
 use Rattle.text.specs.Text.{text_most, text_of, blank_text, puts_of}
 use Rattle.text.specs.declared.Text.{Text}
 use Rattle.text.proofs.Numbers.{decimal-most}
-use Rattle.text.proofs.Writes.{puts-blank}
-use Rattle.trim_file.specs.Inside.{bare_sheet, added, written, Short, Replaces}
-use Rattle.trim_file.specs.Printed.{cost_lines}
-use Rattle.trim_file.specs.Whole.{page_most, output_of}
+use Rattle.text.proofs.Writes.{puts-blank, text-bytes}
+use Rattle.trim_file.specs.Inside.{bare_sheet, added, written, Short, Replaces, CanCut, CanWrite, output_cut, output_by}
+use Rattle.trim_file.specs.Printed.{cost_lines, none_lines}
+use Rattle.trim_file.specs.Whole.{page_most, output_of, page_of}
 use Rattle.trim_file.specs.declared.Output.{Output}
 use Rattle.trim_file.specs.declared.write.Sheet.{Sheet}
 use Rattle.trim_file.proofs.Printed.{cost-most}
 
 -- ---- texts
-
--- The bytes of a text are what was written into it.
-pub text-bytes : (text : Text) (xs : List ℕ) → text ≡ text_of xs → take text.len text.bytes ≡ xs
-text-bytes text xs e =
-    ap (λ (t : Text). take t.len t.bytes) e ∙ take-append_seam xs (replicate (text_most - length xs) 0)
 
 pub text-short : (text : Text) (xs : List ℕ) → length xs ≤ text_most → text ≡ text_of xs → Short text
 text-short text xs h e = subst Short (sym e) (record {
@@ -36,9 +37,13 @@ text-short text xs h e = subst Short (sym e) (record {
 })
 
 -- A number by itself.
-pub number-text : (n : ℕ) (b r : Text) → b ≡ blank_text → r ≡ puts_of b (decimal n) → r ≡ text_of (decimal n)
-number-text n b r e f =
-    f ∙ ap (λ (t : Text). puts_of t (decimal n)) e ∙ puts-blank (decimal n) (omega (arith, decimal-most n))
+pub number-text : (n m : ℕ) (b r : Text) → m ≡ n → b ≡ blank_text → r ≡ puts_of b (decimal m) → r ≡ text_of (decimal n)
+number-text n m b r w e f =
+    f ∙ ap (λ (t : Text). puts_of t (decimal m)) e ∙ ap (λ (k : ℕ). puts_of blank_text (decimal k)) w
+    ∙ puts-blank (decimal n) (omega (arith, decimal-most n))
+
+pub number-length : (n m : ℕ) (b r : Text) → m ≡ n → b ≡ blank_text → r ≡ puts_of b (decimal m) → r.len ≡ length (decimal n)
+number-length n m b r w e f = ap (λ (t : Text). t.len) (number-text n m b r w e f)
 
 -- ---- a page
 
@@ -80,16 +85,16 @@ parts-written lines x y z fits =
     ∙ add-written ((lines ++ x) ++ y) z (omega (arith, length-append lines x, length-append (lines ++ x) y))
     ∙ ap written (simp append_assoc)
 
-pub output-is : (lines file : List ℕ) (k n : ℕ) (sheet : Sheet) → sheet ≡ written (lines ++ file) → n ≡ length lines
-    → ◌≡◌ {A = Output} (record { bytes = sheet.bytes; lines = n; len = sheet.len; refusal = k }) (output_of lines file k)
-unfolding written output_of
+pub output-is : (lines file : List ℕ) (k : Option Refusal) (n : ℕ) (sheet : Sheet) → sheet ≡ written (lines ++ file) → n ≡ length lines
+    → ◌≡◌ {A = Output} (record { bytes = sheet.bytes; lines = n; len = sheet.len; refusal = k }) (page_of lines file k)
+unfolding written page_of
 output-is lines file k n sheet e h =
     λ i. record { bytes = ap (λ (s : Sheet). s.bytes) e i; lines = h i; len = ap (λ (s : Sheet). s.len) e i; refusal = k }
 
 -- The lines alone.
-pub alone-is : (text : Text) (k : ℕ) (bare sheet : Sheet) → length (take text.len text.bytes) ≤ page_most → bare ≡ bare_sheet
+pub alone-is : (text : Text) (k : Option Refusal) (bare sheet : Sheet) → length (take text.len text.bytes) ≤ page_most → bare ≡ bare_sheet
     → sheet ≡ added bare (take text.len text.bytes)
-    → ◌≡◌ {A = Output} (record { bytes = sheet.bytes; lines = sheet.len; len = sheet.len; refusal = k }) (output_of (take text.len text.bytes) [] k)
+    → ◌≡◌ {A = Output} (record { bytes = sheet.bytes; lines = sheet.len; len = sheet.len; refusal = k }) (page_of (take text.len text.bytes) [] k)
 alone-is text k bare sheet fits b e =
     let lines = take text.len text.bytes in
     let is : sheet ≡ written (lines ++ []) =
@@ -109,9 +114,9 @@ module _ (bs : List ℕ) (i old new : ℕ) (r : Replaces bs i old) where
   -- With the file behind them.
   pub file-is : (at behind : ℕ) (lines sheet : Sheet) → at ≡ cost_from bs i → behind ≡ at + length (decimal old)
       → lines ≡ written (cost_lines i 0 old new) → sheet ≡ added (added (added lines (take at bs)) (decimal new)) (drop behind bs)
-      → ◌≡◌ {A = Output} (record { bytes = sheet.bytes; lines = lines.len; len = sheet.len; refusal = 0 })
+      → ◌≡◌ {A = Output} (record { bytes = sheet.bytes; lines = lines.len; len = sheet.len; refusal = None })
       (output_of (cost_lines i 0 old new) (recosted bs (cost_from bs i) old new) 0)
-  unfolding recosted written
+  unfolding recosted written reason
   file-is at behind lines sheet a b l e =
       let text = cost_lines i 0 old new in
       let front : take at bs ≡ take (cost_from bs i) bs = ap (λ (n : ℕ). take n bs) a in
@@ -132,5 +137,32 @@ module _ (bs : List ℕ) (i old new : ℕ) (r : Replaces bs i old) where
       ∙ ap (λ (z : List ℕ). added (added (added (written text) z) (decimal new)) (drop behind bs)) front
       ∙ ap (λ (z : List ℕ). added (added (added (written text) (take (cost_from bs i) bs)) (decimal new)) z) back
       ∙ parts-written text (take (cost_from bs i) bs) (decimal new) (drop (cost_from bs i + length (decimal old)) bs) fits in
-      output-is text (take (cost_from bs i) bs ++ (decimal new ++ drop (cost_from bs i + length (decimal old)) bs)) 0 lines.len sheet is
+      output-is text (take (cost_from bs i) bs ++ (decimal new ++ drop (cost_from bs i + length (decimal old)) bs)) None lines.len sheet is
       (ap (λ (s : Sheet). s.len) l)
+
+-- ---- the lines of an answer without a file
+
+-- of none,
+pub none-is : (i old m : ℕ) (text : Text) (out : Output) → m ≡ old → text ≡ text_of (none_lines i m)
+    → out ≡ page_of (take text.len text.bytes) [] None → out ≡ output_of (none_lines i old) [] 0
+unfolding reason
+none-is i old m text out w t e =
+    e ∙ ap (λ (bs : List ℕ). page_of bs [] None) (text-bytes text (none_lines i m) t ∙ ap (none_lines i) w)
+
+-- and of a refusal.
+pub refused-is : (r : Refusal) (m : ℕ) (text : Text) (out : Output) → m ≡ number_of r → text ≡ text_of (cost_lines 0 m 0 0)
+    → out ≡ page_of (take text.len text.bytes) [] (Some r) → out ≡ output_of (cost_lines 0 (number_of r) 0 0) [] (number_of r)
+refused-is r m text out w t e =
+    e ∙ ap (λ (bs : List ℕ). page_of bs [] (Some r)) (text-bytes text (cost_lines 0 m 0 0) t ∙ ap (λ (k : ℕ). cost_lines 0 k 0 0) w)
+    ∙ ap (page_of (cost_lines 0 (number_of r) 0 0) []) (reason-some r)
+
+-- ---- by what an answer is
+
+module _ (bs : List ℕ) (i : ℕ) (a : Result Cut Refusal) (cut : Cut) (is : a ≡ Ok cut) where
+  pub cut-replaces : (new : ℕ) → cut.new ≡ Some new → CanWrite bs i a → Replaces bs i cut.old
+  unfolding CanWrite
+  cut-replaces new e can = subst (CanCut bs i cut.old) e (subst (CanWrite bs i) is can)
+
+  pub cut-output : (new : Option ℕ) (out : Output) → cut.new ≡ new → out ≡ output_cut bs i cut.old new → out ≡ output_by bs i a
+  unfolding output_by
+  cut-output new out e f = f ∙ sym (ap (output_cut bs i cut.old) e) ∙ sym (ap (output_by bs i) is)

@@ -5,66 +5,57 @@ mod lines;
 pub mod names;
 mod write;
 
-ghost use Rattle.std.specs.Prelude.{[], ◌≡◌};
+ghost use Rattle.std.specs.Prelude.{◌≡◌, take};
 ghost use Rattle.trim_file.specs.Inside.{CanWrite, output_by};
-ghost use Rattle.trim_file.specs.Printed.{cost_lines, none_lines};
-ghost use Rattle.trim_file.specs.Whole.{output_of, AnswerIn, TrimmedSays};
+ghost use Rattle.trim_file.specs.Whole.{FileAnswers, TrimmedSays};
 
+use demand::refusal::Refusal;
 use layout::reader;
-use trim::Answer;
+use trim::Cut;
 
 // The bytes of a page: enough for the two lines and a file.
 pub const PAGE_MOST: usize = 4352;
 
-// What is written: the bytes up to `lines` are printed, those behind them up to `len` are the new file; and the number of the refusal, 0
-// for none.
+// What is written: the bytes up to `lines` are printed, those behind them up to `len` are the new file; and the refusal.
 #[derive(Clone, Copy)]
 pub struct Output {
     pub bytes: [u8; PAGE_MOST],
     pub lines: usize,
     pub len: usize,
-    pub refusal: u32,
+    pub refusal: Option<Refusal>,
 }
 
-// A refusal.
-fn refused(number: u32) -> Output
-    ensures { result ≡ output_of (cost_lines 0 number 0 0) [] number }
-{
-    write::lines_alone(lines::of_cost(0, number as u64, 0, 0), number)
-}
-
-// No cost from 1 fits.
-fn none(row: usize, old: u32) -> Output
-    ensures { result ≡ output_of (none_lines row old) [] 0 }
-{
-    write::lines_alone(lines::of_none(row as u64, old as u64), 0)
-}
-
-// The answer for a task of a table in a file: what `trim` answers, or a refusal where a handler has a deadline, 13 unless one that comes
-// first applies.
-fn answer(misplaced: bool, tasks: &[u32], handlers: &[u32], row: usize) -> Answer
-    ensures { AnswerIn misplaced tasks.now handlers.now row result }
-{
-    if !misplaced {
-        return trim::trim(tasks, handlers, row);
+impl Output {
+    // The lines, and the file behind them.
+    pub fn as_bytes(&self) -> &[u8]
+        ensures { result.now ≡ take self.now.len self.now.bytes }
+    {
+        &self.bytes[..self.len.min(PAGE_MOST)]
     }
-    let number = demand::refusal::of_table(tasks, handlers);
-    if number == 0 {
-        Answer::Refused { number: 13 }
-    } else {
-        Answer::Refused { number }
-    }
+}
+
+// The answer for a task of the table that a file says.
+fn answer(input: &[u8], row: usize) -> Result<Cut, Refusal>
+    ensures { FileAnswers input.now row result }
+{
+    let table = reader::table_in(input)?;
+    trim::trim(table.tasks(), table.handlers(), row)
 }
 
 // What is written of an answer.
-fn of_answer(input: &[u8], row: usize, answer: Answer) -> Output
+fn page_of(input: &[u8], row: usize, answer: Result<Cut, Refusal>) -> Output
     requires { CanWrite input.now row answer }
     ensures { result ≡ output_by input.now row answer }
 {
     match answer {
-        Answer::Refused { number } => refused(number),
-        Answer::None { old } => none(row, old),
-        Answer::Cost { old, new } => write::with_file(input, row, old, new),
+        Ok(cut) => match cut.new {
+            Some(new) => write::with_file(input, row, cut.old, new),
+            None => write::lines_alone(lines::of_none(row as u64, u64::from(cut.old)), None),
+        },
+        Err(refusal) => write::lines_alone(
+            lines::of_cost(0, u64::from(refusal.number()), 0, 0),
+            Some(refusal),
+        ),
     }
 }
 
@@ -73,18 +64,5 @@ fn of_answer(input: &[u8], row: usize, answer: Answer) -> Output
 pub fn trimmed(input: &[u8], row: usize) -> Output
     ensures { TrimmedSays input.now row result }
 {
-    let table = reader::read(input);
-    let ok = table.ok;
-    if !ok {
-        return refused(12);
-    }
-    let misplaced = table.misplaced;
-    let tasks = table.tasks;
-    let handlers = table.handlers;
-    let task_numbers = tasks.numbers;
-    let handler_numbers = handlers.numbers;
-    let n = tasks.len;
-    let m = handlers.len;
-    let told = answer(misplaced, &task_numbers[..n], &handler_numbers[..m], row);
-    of_answer(input, row, told)
+    page_of(input, row, answer(input, row))
 }

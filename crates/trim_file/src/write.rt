@@ -4,9 +4,10 @@ ghost use Rattle.recost.specs.Inside.Scan.{cost_from, recosted};
 ghost use Rattle.text.specs.Numbers.{decimal};
 ghost use Rattle.trim_file.specs.Inside.{bare_sheet, added, Short, Replaces};
 ghost use Rattle.trim_file.specs.Printed.{cost_lines};
-ghost use Rattle.trim_file.specs.Whole.{output_of};
+ghost use Rattle.trim_file.specs.Whole.{output_of, page_of};
 
 use crate::{Output, PAGE_MOST, lines};
+use demand::refusal::Refusal;
 use text::Text;
 
 // A page, and how much of it is written.
@@ -34,31 +35,23 @@ fn add(sheet: Sheet, bytes: &[u8]) -> Sheet
     Sheet { bytes: page, len }
 }
 
-// A text more.
-fn add_text(sheet: Sheet, text: Text) -> Sheet
-    requires { Short text }
-    ensures { result ≡ added sheet (take text.len text.bytes) }
-{
-    let bytes = text.bytes;
-    add(sheet, &bytes[..text.len])
-}
-
 // The file more, with a number in place of what stands from `at` up to `behind`.
 fn replace(sheet: Sheet, input: &[u8], at: usize, behind: usize, new: u32) -> Sheet
     requires { (at ≤ behind) × (behind ≤ length input.now) }
     ensures { result ≡ added (added (added sheet (take at input.now)) (decimal new)) (drop behind input.now) }
 {
     let front = add(sheet, &input[..at]);
-    let digits = add_text(front, text::number(text::blank(), new as u64));
+    let number = text::number(text::blank(), u64::from(new));
+    let digits = add(front, number.as_bytes());
     add(digits, &input[behind..])
 }
 
 // The lines alone.
-pub fn lines_alone(text: Text, refusal: u32) -> Output
+pub fn lines_alone(text: Text, refusal: Option<Refusal>) -> Output
     requires { Short text }
-    ensures { result ≡ output_of (take text.len text.bytes) [] refusal }
+    ensures { result ≡ page_of (take text.len text.bytes) [] refusal }
 {
-    let sheet = add_text(bare(), text);
+    let sheet = add(bare(), text.as_bytes());
     let bytes = sheet.bytes;
     let len = sheet.len;
     Output {
@@ -76,12 +69,10 @@ pub fn with_file(input: &[u8], row: usize, old: u32, new: u32) -> Output
         (recosted input.now (cost_from input.now row) old new) 0 }
 {
     let at = recost::cost_from(input, row);
-    let was = text::number(text::blank(), old as u64);
+    let was = text::number(text::blank(), u64::from(old));
     let behind = at + was.len;
-    let lines = add_text(
-        bare(),
-        lines::of_cost(row as u64, 0, old as u64, new as u64),
-    );
+    let told = lines::of_cost(row as u64, 0, u64::from(old), u64::from(new));
+    let lines = add(bare(), told.as_bytes());
     let printed = lines.len;
     let sheet = replace(lines, input, at, behind, new);
     let bytes = sheet.bytes;
@@ -89,6 +80,6 @@ pub fn with_file(input: &[u8], row: usize, old: u32, new: u32) -> Output
         bytes,
         lines: printed,
         len: sheet.len,
-        refusal: 0,
+        refusal: None,
     }
 }

@@ -16,34 +16,17 @@ fn main(rt: HostRuntime) {
     let mut name = [0u8; NAME_MOST];
     let k = console::argument(&rt, 1, &mut name);
     let row = trim_file::names::row_named(&name[..k]);
-    let mut input = [0u8; READ_MOST];
-    let reading = console::read_whole(&mut rt.stdin(), &mut input);
-    let n = reading.count;
-    let whole = reading.whole;
-    if whole {
-        answer(&rt, &input[..n], row);
-    } else {
-        console::say(
-            &rt.stderr(),
-            b"trim: standard input could not be read to its end\n",
-        );
-    }
+    let mut room = [0u8; READ_MOST];
+    console::with_input(&rt, b"trim", &mut room, |file| answer(&rt, file, row));
 }
 
 // Prints the lines and the new table of a whole file.
 fn answer(rt: &HostRuntime, file: &[u8], row: usize) {
     let output = trim_file::trimmed(file, row);
-    let page = output.bytes;
-    let len = output.len;
-    let refusal = output.refusal;
-    let written = console::say(&rt.stdout(), &page[..len]);
-    if !written {
-        console::say(
-            &rt.stderr(),
-            b"trim: the lines and the table could not be written whole\n",
-        );
-    }
-    if 0 < refusal {
-        console::explain(&rt.stderr(), refusal);
-    }
+    console::answer(
+        rt,
+        output.as_bytes(),
+        b"trim: the lines and the table could not be written whole\n",
+        output.refusal,
+    );
 }

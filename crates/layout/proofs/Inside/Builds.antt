@@ -12,9 +12,12 @@ use Rattle.demand.specs.Tests.{pick}
 use Rattle.demand.specs.declared.table.Kind.{Kind}
 use Rattle.demand.specs.declared.table.Kind.TheVariants.{Task, Handler}
 use Rattle.layout.specs.File.{file_most, rows_most, Entry}
-use Rattle.layout.specs.Inside.Building.{Room, longer, longer_by, pushed, grown, fed, table_at_end, added, Reading, next, read_from, read_over, Outcome, none, some, rows_at_end, outcome}
+use Rattle.std.specs.Prelude.{Option, Some, None, Result, Ok, Err}
+use Rattle.demand.specs.declared.refusal.Refusal.{Refusal}
+use Rattle.demand.specs.declared.refusal.Refusal.TheVariants.{FileMalformed}
+use Rattle.layout.specs.Inside.Building.{Room, longer, longer_by, pushed, grown, fed, table_at_end, added, Reading, next, read_from, read_over, rows_at_end, outcome}
 use Rattle.layout.specs.Inside.Steps.{after_byte, is_start, columns_of}
-use Rattle.layout.specs.Table.{entry_numbers, list_of, misplaced_in, misplaced, flat_most, flat_of, table_of, broken_table}
+use Rattle.layout.specs.Table.{entry_numbers, list_of, misplaced_in, misplaced, flat_most, flat_of, table_of}
 use Rattle.layout.specs.declared.reader.Flat.{Flat}
 use Rattle.layout.specs.declared.reader.Table.{Table}
 use Rattle.layout.specs.declared.steps.State.{State}
@@ -77,7 +80,7 @@ pushed-next es e h =
     let tasks = flat-next Task es e (omega (arith, most, one_more)) in
     let handlers = flat-next Handler es e (omega (arith, most, one_more)) in
     let deadline = misplaced-next es e in
-    λ i. record { ok = true; misplaced = sym deadline i; tasks = tasks i; handlers = handlers i }
+    λ i. record { misplaced = sym deadline i; tasks = tasks i; handlers = handlers i }
 
 grown-next : (es fs : List Entry) → length es + length fs ≤ rows_most → grown (table_of es) fs ≡ table_of (es ++ fs)
 grown-next es [] h = ap table_of (sym (append-nil es))
@@ -93,34 +96,34 @@ fed-next : (es : List Entry) (st : State) (b : ℕ) → length (es ++ added st b
 fed-next es st b h = grown-next es (added st b) (omega (arith, length-append es (added st b)))
 
 -- What an outcome comes to as a table.
-abbrev pub table_for : Outcome → Table
-table_for none = broken_table
-table_for (some es) = table_of es
+abbrev pub table_for : Option (List Entry) → Result Table Refusal
+table_for None = Err FileMalformed
+table_for (Some es) = Ok (table_of es)
 
 table-at-end : (cols : Columns) (w : Reading) → length (read_from cols w crlf).rows ≤ rows_most →
     table_at_end cols (table_of w.rows) w.st ≡ table_for (rows_at_end cols w)
 table-at-end cols w h =
     let cr = after_byte cols w.st 13 in
-    by (λ t. pick t (fed (table_of w.rows) (after_byte cols w.st 13) 10) (pick (is_start w.st) (table_of w.rows) broken_table)
-    ≡ table_for (pick t (some (read_from cols w crlf).rows) (pick (is_start w.st) (some w.rows) none)))
+    by (λ t. pick t (Ok (fed (table_of w.rows) (after_byte cols w.st 13) 10)) (pick (is_start w.st) (Ok (table_of w.rows)) (Err FileMalformed))
+    ≡ table_for (pick t (Some (read_from cols w crlf).rows) (pick (is_start w.st) (Some w.rows) None)))
     (is_start (read_from cols w crlf).st)
-    (λ e. fed-next w.rows cr 10 (subst (λ (z : List Entry). length (z ++ added cr 10) ≤ rows_most) (append-nil w.rows) h)
-    ∙ ap (λ (z : List Entry). table_of (z ++ added cr 10)) (sym (append-nil w.rows)))
-    (λ e. by (λ t. pick t (table_of w.rows) broken_table ≡ table_for (pick t (some w.rows) none)) (is_start w.st) (λ _. refl) (λ _. refl))
+    (λ e. ap Ok (fed-next w.rows cr 10 (subst (λ (z : List Entry). length (z ++ added cr 10) ≤ rows_most) (append-nil w.rows) h)
+    ∙ ap (λ (z : List Entry). table_of (z ++ added cr 10)) (sym (append-nil w.rows))))
+    (λ e. by (λ t. pick t (Ok (table_of w.rows)) (Err FileMalformed) ≡ table_for (pick t (Some w.rows) None)) (is_start w.st) (λ _. refl) (λ _. refl))
 
 -- From the two steps of a CRLF: the last line lacked it, or did not.
-module _ (cols : Columns) (t r : Table) (st cr lf : State) (first : cr ≡ after_byte cols st 13) (then : lf ≡ after_byte cols cr 10) where
+module _ (cols : Columns) (t : Table) (r : Result Table Refusal) (st cr lf : State) (first : cr ≡ after_byte cols st 13) (then : lf ≡ after_byte cols cr 10) where
   at-end : is_start (after_byte cols (after_byte cols st 13) 10) ≡ is_start lf
   at-end = sym (ap is_start (then ∙ ap (λ (s : State). after_byte cols s 10) first))
 
-  pub table-at-end-short : is_start lf ≡ true → r ≡ fed t cr 10 → r ≡ table_at_end cols t st
+  pub table-at-end-short : is_start lf ≡ true → r ≡ Ok (fed t cr 10) → r ≡ table_at_end cols t st
   table-at-end-short e f =
-      f ∙ ap (λ (s : State). fed t s 10) first
-      ∙ sym (ap (λ (b : Bool). pick b (fed t (after_byte cols st 13) 10) (pick (is_start st) t broken_table)) (at-end ∙ e))
+      f ∙ ap (λ (s : State). Ok (fed t s 10)) first
+      ∙ sym (ap (λ (b : Bool). pick b (Ok (fed t (after_byte cols st 13) 10)) (pick (is_start st) (Ok t) (Err FileMalformed))) (at-end ∙ e))
 
-  pub table-at-end-full : is_start lf ≡ false → r ≡ pick (is_start st) t broken_table → r ≡ table_at_end cols t st
+  pub table-at-end-full : is_start lf ≡ false → r ≡ pick (is_start st) (Ok t) (Err FileMalformed) → r ≡ table_at_end cols t st
   table-at-end-full e f =
-      f ∙ sym (ap (λ (b : Bool). pick b (fed t (after_byte cols st 13) 10) (pick (is_start st) t broken_table)) (at-end ∙ e))
+      f ∙ sym (ap (λ (b : Bool). pick b (Ok (fed t (after_byte cols st 13) 10)) (pick (is_start st) (Ok t) (Err FileMalformed))) (at-end ∙ e))
 
 -- ---- the reader's loop: before the byte at i it stands where the reading over the first i bytes does
 
@@ -163,8 +166,8 @@ module _ (cols : Columns) (bs : List ℕ) (small : length bs ≤ file_most) wher
       ∙ ap (λ (x : List ℕ). table_at_end cols (table_of (read_over cols x).rows) (read_over cols x).st) (take_all i bs h)
       ∙ table-at-end cols (read_over cols bs) last
       ∙ ap (λ (x : Columns). table_for (rows_at_end x (read_over x bs))) told
-      ∙ sym (ap (λ (b : Bool). table_for (pick b none (rows_at_end (columns_of bs) (read_over (columns_of bs) bs)))) (le-ltb file_most (length bs) small))
+      ∙ sym (ap (λ (b : Bool). table_for (pick b None (rows_at_end (columns_of bs) (read_over (columns_of bs) bs)))) (le-ltb file_most (length bs) small))
 
-pub over-long : (bs : List ℕ) → file_most < length bs → broken_table ≡ table_for (outcome bs)
+pub over-long : (bs : List ℕ) → file_most < length bs → Err FileMalformed ≡ table_for (outcome bs)
 over-long bs h =
-    sym (ap (λ (b : Bool). table_for (pick b none (rows_at_end (columns_of bs) (read_over (columns_of bs) bs)))) (lt-ltb file_most (length bs) h))
+    sym (ap (λ (b : Bool). table_for (pick b None (rows_at_end (columns_of bs) (read_over (columns_of bs) bs)))) (lt-ltb file_most (length bs) h))

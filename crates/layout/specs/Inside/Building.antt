@@ -12,12 +12,14 @@
 --   read_over cols bs     == the reading over the bytes bs
 --   rows_at_end cols w     == the rows of a file that ends at the reading w, or nothing
 --   outcome bs           == the rows of the file bs, or nothing
-use Rattle.std.specs.Prelude.{◌||◌, List, [], ◌∷◌, ◌++◌, ℕ, ◌+◌, ◌≤◌, eqb, ltb, length, set}
+use Rattle.std.specs.Prelude.{◌||◌, List, [], ◌∷◌, ◌++◌, ℕ, ◌+◌, ◌≤◌, eqb, ltb, length, set, Option, Some, None, Result, Ok, Err}
 use Rattle.demand.specs.Tests.{pick}
+use Rattle.demand.specs.declared.refusal.Refusal.{Refusal}
+use Rattle.demand.specs.declared.refusal.Refusal.TheVariants.{FileMalformed}
 use Rattle.demand.specs.declared.table.Kind.TheVariants.{Task, Handler}
 use Rattle.layout.specs.File.{Entry, entry, file_most}
 use Rattle.layout.specs.Inside.Steps.{after_byte, is_start, columns_of}
-use Rattle.layout.specs.Table.{entry_numbers, misplaced_in, flat_most, broken_table}
+use Rattle.layout.specs.Table.{entry_numbers, misplaced_in, flat_most}
 use Rattle.layout.specs.declared.reader.Flat.{Flat}
 use Rattle.layout.specs.declared.reader.Table.{Table}
 use Rattle.layout.specs.declared.steps.State.{State}
@@ -38,7 +40,6 @@ longer_by rows (x ∷ xs) = longer_by (longer rows x) xs
 abbrev pub pushed : Table → Entry → Table
 pushed t e =
     record {
-      ok = t.ok;
       misplaced = misplaced_in e || t.misplaced;
       tasks = longer_by t.tasks (entry_numbers Task e);
       handlers = longer_by t.handlers (entry_numbers Handler e);
@@ -64,10 +65,10 @@ grown t (e ∷ es) = grown (pushed t e) es
 abbrev pub fed : Table → State → ℕ → Table
 fed t st b = grown t (added st b)
 
-abbrev pub table_at_end : Columns → Table → State → Table
+abbrev pub table_at_end : Columns → Table → State → Result Table Refusal
 table_at_end cols t st =
-    pick (is_start (after_byte cols (after_byte cols st 13) 10)) (fed t (after_byte cols st 13) 10)
-    (pick (is_start st) t broken_table)
+    pick (is_start (after_byte cols (after_byte cols st 13) 10)) (Ok (fed t (after_byte cols st 13) 10))
+    (pick (is_start st) (Ok t) (Err FileMalformed))
 
 pub record Reading : Type 0 where
   pub st : State
@@ -83,14 +84,10 @@ read_from cols w (b ∷ bs) = read_from cols (next cols w b) bs
 abbrev pub read_over : Columns → List ℕ → Reading
 read_over cols bs = read_from cols (record { st = Head 0; rows = [] }) bs
 
-pub data Outcome : Type 0 where
-  none : Outcome
-  some : List Entry → Outcome
-
-abbrev pub rows_at_end : Columns → Reading → Outcome
+abbrev pub rows_at_end : Columns → Reading → Option (List Entry)
 rows_at_end cols w =
-    pick (is_start (read_from cols w crlf).st) (some (read_from cols w crlf).rows)
-    (pick (is_start w.st) (some w.rows) none)
+    pick (is_start (read_from cols w crlf).st) (Some (read_from cols w crlf).rows)
+    (pick (is_start w.st) (Some w.rows) None)
 
-abbrev pub outcome : List ℕ → Outcome
-outcome bs = pick (ltb file_most (length bs)) none (rows_at_end (columns_of bs) (read_over (columns_of bs) bs))
+abbrev pub outcome : List ℕ → Option (List Entry)
+outcome bs = pick (ltb file_most (length bs)) None (rows_at_end (columns_of bs) (read_over (columns_of bs) bs))

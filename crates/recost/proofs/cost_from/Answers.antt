@@ -1,14 +1,17 @@
-use mathlib.Core.Path.{ap}
+use mathlib.Core.Bool.{Bool, true, false}
+use mathlib.Core.Path.{◌≡◌, refl, ap, ◌∙◌}
+use mir.Val.{bool_byte}
+use Rattle.demand.specs.Tests.{pick}
 use native.Mathlib.Omega.{arith}
-use borrow.Author.Rules.{rules}
-use Prim.Native.Nat.{ℕ, ◌+◌}
+use Prim.Native.Nat.{ℕ, ◌+◌, ◌-◌}
 use lib.ListN.{drop}
 use Rattle.recost.specs.Inside.Scan.{cost_from}
 use Rattle.recost.proofs.Scan.{scan-stops, scan-goes, scan-ends}
 use Rattle.recost.proofs.cost_from.Goals as goal
 
-pub loop-i-init : goal.loop-i-init
-loop-i-init c = (omega arith, omega arith)
+one-of : (b : Bool) → bool_byte b ≡ pick b 1 0
+one-of true = refl
+one-of false = refl
 
 pub returns-then-begins-left : goal.returns-then-begins-left
 returns-then-begins-left c =
@@ -20,8 +23,9 @@ loop-i-preserved c =
     let bs = c.args.bytes.now in
     let i = c.loop-i.i in
     let on = scan-goes bs i c.loop-i.left c.loop-i-test.true (rw c.opens-begins.ensures at c.if-begins-left.false) in
-    let left = ap (λ (k : ℕ). cost_from (drop (i + 1) bs) k) (rw c.opens-begins.ensures at c.fewer-left.ensures) in
-    (search rules, omega (arith, on, left, c.loop-i.invariant.1))
+    let fewer = c.saturating_sub-left.ensures ∙ ap (λ (n : ℕ). c.loop-i.left - n) (c.from.ensures ∙ one-of _ ∙ ap (λ (b : Bool). pick b 1 0) c.opens-begins.ensures) in
+    let left = ap (λ (k : ℕ). cost_from (drop (i + 1) bs) k) fewer in
+    (omega arith, omega (arith, on, left, c.loop-i.invariant.1))
 
 pub returns : goal.returns
 returns c =

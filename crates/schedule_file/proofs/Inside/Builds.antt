@@ -11,11 +11,14 @@ use lib.Seq.{set_at, take-suc, take_all}
 use Rattle.demand.specs.Tests.{pick}
 use Rattle.demand.specs.declared.table.Kind.{Kind}
 use Rattle.schedule_file.specs.File.{Entry, entry}
+use Rattle.std.specs.Prelude.{Some, None, Result, Ok, Err}
+use Rattle.demand.specs.declared.refusal.Refusal.{Refusal}
+use Rattle.demand.specs.declared.refusal.Refusal.TheVariants.{FileMalformed}
 use Rattle.schedule_file.specs.Inside.Building.{added, Reading, reading, next, read_from}
-use Rattle.schedule_file.specs.Inside.Building.{read_over, none, some, few, few_of, rows_at_end}
+use Rattle.schedule_file.specs.Inside.Building.{read_over, few, few_of, rows_at_end}
 use Rattle.schedule_file.specs.Inside.Built.{count_most, Built, Grows, schedule_for}
 use Rattle.schedule_file.specs.Inside.Steps.{after_byte, is_start}
-use Rattle.schedule_file.specs.Schedule.{kind_number, entry_numbers, numbers_of, numbers_most, filled, broken_schedule}
+use Rattle.schedule_file.specs.Schedule.{kind_number, entry_numbers, numbers_of, numbers_most, filled}
 use Rattle.schedule_file.specs.declared.reader.Schedule.{Schedule}
 use Rattle.schedule_file.specs.declared.steps.State.{State}
 use Rattle.schedule_file.specs.declared.steps.State.TheVariants.{Head}
@@ -102,18 +105,18 @@ grows-as n ns m ms fs gs e g = λ es b. subst (λ (z : List Entry). Built m ms (
 
 module _ (n : ℕ) (ns : List ℕ) (es : List Entry) (built : Built n ns es) where
   -- Too many are broken,
-  pub finished-over : segments_most < n → (r : Schedule) → r ≡ broken_schedule → r ≡ schedule_for (few es)
+  pub finished-over : segments_most < n → (r : Result Schedule Refusal) → r ≡ Err FileMalformed → r ≡ schedule_for (few es)
   finished-over h r e =
-      e ∙ sym (ap (λ (t : Bool). schedule_for (pick t none (some es))) (lt-ltb segments_most (length es) (omega (arith, built.count))))
+      e ∙ sym (ap (λ (t : Bool). schedule_for (pick t None (Some es))) (lt-ltb segments_most (length es) (omega (arith, built.count))))
 
   -- and few enough are the answer.
-  pub finished-few : n ≤ segments_most → record { ok = true; len = 4 * n; numbers = ns } ≡ schedule_for (few es)
+  pub finished-few : n ≤ segments_most → Ok (record { len = 4 * n; numbers = ns }) ≡ schedule_for (few es)
   finished-few h =
       let rows : length es ≡ n = omega (arith, built.count) in
       let len : 4 * n ≡ length (numbers_of es) = omega (arith, numbers-length es, rows) in
       let numbers : ns ≡ filled (numbers_of es) = built.numbers (omega (arith, rows)) in
-      (λ i. record { ok = true; len = len i; numbers = numbers i })
-      ∙ sym (ap (λ (t : Bool). schedule_for (pick t none (some es))) (le-ltb segments_most (length es) (omega (arith, rows))))
+      (λ i. Ok (record { len = len i; numbers = numbers i }))
+      ∙ sym (ap (λ (t : Bool). schedule_for (pick t None (Some es))) (le-ltb segments_most (length es) (omega (arith, rows))))
 
 -- From the two steps of a CRLF: the last line lacked it, or did not.
 module _ (st cr lf : State) (es : List Entry) (first : cr ≡ after_byte st 13) (then : lf ≡ after_byte cr 10) where
@@ -121,29 +124,29 @@ module _ (st cr lf : State) (es : List Entry) (first : cr ≡ after_byte st 13) 
   at-end = sym (ap is_start (then ∙ ap (λ (s : State). after_byte s 10) first))
 
   -- The last line lacked its CRLF,
-  pub close-short : is_start lf ≡ true → (r : Schedule) → r ≡ schedule_for (few (es ++ added cr 10))
+  pub close-short : is_start lf ≡ true → (r : Result Schedule Refusal) → r ≡ schedule_for (few (es ++ added cr 10))
       → r ≡ schedule_for (few_of (rows_at_end (reading st es)))
   close-short e r f =
       f ∙ ap (λ (s : State). schedule_for (few (es ++ added s 10))) first
       ∙ ap (λ (z : List Entry). schedule_for (few (z ++ added (after_byte st 13) 10))) (sym (append-nil es))
       ∙ sym (ap (λ (t : Bool).
-      schedule_for (few_of (pick t (some (read_from (reading st es) crlf).rows) (pick (is_start st) (some es) none)))) (at-end ∙ e))
+      schedule_for (few_of (pick t (Some (read_from (reading st es) crlf).rows) (pick (is_start st) (Some es) None)))) (at-end ∙ e))
 
   -- had it,
-  pub close-full : is_start lf ≡ false → is_start st ≡ true → (r : Schedule) → r ≡ schedule_for (few es)
+  pub close-full : is_start lf ≡ false → is_start st ≡ true → (r : Result Schedule Refusal) → r ≡ schedule_for (few es)
       → r ≡ schedule_for (few_of (rows_at_end (reading st es)))
   close-full e t r f =
       f ∙ sym (ap (λ (b : Bool).
-      schedule_for (few_of (pick b (some (read_from (reading st es) crlf).rows) (pick (is_start st) (some es) none)))) (at-end ∙ e)
-      ∙ ap (λ (b : Bool). schedule_for (few_of (pick b (some es) none))) t)
+      schedule_for (few_of (pick b (Some (read_from (reading st es) crlf).rows) (pick (is_start st) (Some es) None)))) (at-end ∙ e)
+      ∙ ap (λ (b : Bool). schedule_for (few_of (pick b (Some es) None))) t)
 
   -- or there is no whole line.
-  pub close-broken : is_start lf ≡ false → is_start st ≡ false → (r : Schedule) → r ≡ broken_schedule
+  pub close-broken : is_start lf ≡ false → is_start st ≡ false → (r : Result Schedule Refusal) → r ≡ Err FileMalformed
       → r ≡ schedule_for (few_of (rows_at_end (reading st es)))
   close-broken e t r f =
       f ∙ sym (ap (λ (b : Bool).
-      schedule_for (few_of (pick b (some (read_from (reading st es) crlf).rows) (pick (is_start st) (some es) none)))) (at-end ∙ e)
-      ∙ ap (λ (b : Bool). schedule_for (few_of (pick b (some es) none))) t)
+      schedule_for (few_of (pick b (Some (read_from (reading st es) crlf).rows) (pick (is_start st) (Some es) None)))) (at-end ∙ e)
+      ∙ ap (λ (b : Bool). schedule_for (few_of (pick b (Some es) None))) t)
 
 -- ---- the reader's loop: before the byte at i it stands where the reading over the first i bytes does
 
@@ -177,7 +180,7 @@ stands-next bs n ns st i stands h m ms s es-st fed =
     }
 
 -- and behind the last.
-pub stands-end : (bs : List ℕ) (n : ℕ) (ns : List ℕ) (st : State) (i : ℕ) → Stands bs n ns st i → length bs ≤ i → (r : Schedule)
+pub stands-end : (bs : List ℕ) (n : ℕ) (ns : List ℕ) (st : State) (i : ℕ) → Stands bs n ns st i → length bs ≤ i → (r : Result Schedule Refusal)
     → ((es : List Entry) → Built n ns es → r ≡ schedule_for (few_of (rows_at_end (reading st es))))
     → r ≡ schedule_for (few_of (rows_at_end (read_over bs)))
 stands-end bs n ns st i stands h r closed =

@@ -8,7 +8,7 @@
 --   few es           == the rows es where they are at most 2,048, else nothing; few_of of an outcome
 --   rows_at_end w      == the rows of a file that ends at the reading w, or nothing: the last line may lack its CRLF
 --   outcome bs       == the rows of the file bs, or nothing
-use Rattle.std.specs.Prelude.{List, [], ◌∷◌, ◌++◌, ℕ, eqb, ltb, length}
+use Rattle.std.specs.Prelude.{List, [], ◌∷◌, ◌++◌, ℕ, eqb, ltb, length, Option, Some, None}
 use Rattle.demand.specs.Tests.{pick}
 use Rattle.schedule_file.specs.File.{Entry, entry}
 use Rattle.schedule_file.specs.Inside.Steps.{after_byte, is_start}
@@ -46,21 +46,17 @@ read_from w (b ∷ bs) = read_from (next w b) bs
 abbrev pub read_over : List ℕ → Reading
 read_over bs = read_from (record { st = Head 0; rows = [] }) bs
 
-pub data Outcome : Type 0 where
-  none : Outcome
-  some : List Entry → Outcome
+abbrev pub few : List Entry → Option (List Entry)
+few es = pick (ltb segments_most (length es)) None (Some es)
 
-abbrev pub few : List Entry → Outcome
-few es = pick (ltb segments_most (length es)) none (some es)
-
-abbrev pub rows_at_end : Reading → Outcome
+abbrev pub rows_at_end : Reading → Option (List Entry)
 rows_at_end w =
-    pick (is_start (read_from w crlf).st) (some (read_from w crlf).rows)
-    (pick (is_start w.st) (some w.rows) none)
+    pick (is_start (read_from w crlf).st) (Some (read_from w crlf).rows)
+    (pick (is_start w.st) (Some w.rows) None)
 
-abbrev pub few_of : Outcome → Outcome
-few_of none = none
-few_of (some es) = few es
+abbrev pub few_of : Option (List Entry) → Option (List Entry)
+few_of None = None
+few_of (Some es) = few es
 
-abbrev pub outcome : List ℕ → Outcome
+abbrev pub outcome : List ℕ → Option (List Entry)
 outcome bs = few_of (rows_at_end (read_over bs))

@@ -4,10 +4,12 @@
 --   schedule_for o    == what an outcome comes to as a schedule
 --   Grows n ns fs m ms   with the rows fs more, the count n and the numbers ns become m and ms
 --   Finishes n ns r, Closes n ns st r   r is the schedule of what is built, and of a file that then ends at st
-use Rattle.std.specs.Prelude.{List, ◌++◌, ◌≡◌, ℕ, ◌+◌, ◌≤◌, min, length}
+use Rattle.std.specs.Prelude.{List, ◌++◌, ◌≡◌, ℕ, ◌+◌, ◌≤◌, min, length, Option, Some, None, Result, Ok, Err}
+use Rattle.demand.specs.declared.refusal.Refusal.{Refusal}
+use Rattle.demand.specs.declared.refusal.Refusal.TheVariants.{FileMalformed}
 use Rattle.schedule_file.specs.File.{Entry}
-use Rattle.schedule_file.specs.Inside.Building.{Outcome, none, some, few, few_of, reading, rows_at_end}
-use Rattle.schedule_file.specs.Schedule.{numbers_of, filled, schedule_of, broken_schedule}
+use Rattle.schedule_file.specs.Inside.Building.{few, few_of, reading, rows_at_end}
+use Rattle.schedule_file.specs.Schedule.{numbers_of, filled, schedule_of}
 use Rattle.schedule_file.specs.declared.reader.Schedule.{Schedule}
 use Rattle.schedule_file.specs.declared.steps.State.{State}
 use Rattle.segments.specs.Promise.{segments_most}
@@ -19,15 +21,15 @@ pub record Built (n : ℕ) (ns : List ℕ) (es : List Entry) : Type 0 where
   pub count : n ≡ min (length es) count_most
   pub numbers : length es ≤ segments_most → ns ≡ filled (numbers_of es)
 
-abbrev pub schedule_for : Outcome → Schedule
-schedule_for none = broken_schedule
-schedule_for (some es) = schedule_of es
+abbrev pub schedule_for : Option (List Entry) → Result Schedule Refusal
+schedule_for None = Err FileMalformed
+schedule_for (Some es) = Ok (schedule_of es)
 
 abbrev pub Grows : ℕ → List ℕ → List Entry → ℕ → List ℕ → Type 0
 Grows n ns fs m ms = (es : List Entry) → Built n ns es → Built m ms (es ++ fs)
 
-abbrev pub Finishes : ℕ → List ℕ → Schedule → Type 0
+abbrev pub Finishes : ℕ → List ℕ → Result Schedule Refusal → Type 0
 Finishes n ns r = (es : List Entry) → Built n ns es → r ≡ schedule_for (few es)
 
-abbrev pub Closes : ℕ → List ℕ → State → Schedule → Type 0
+abbrev pub Closes : ℕ → List ℕ → State → Result Schedule Refusal → Type 0
 Closes n ns st r = (es : List Entry) → Built n ns es → r ≡ schedule_for (few_of (rows_at_end (reading st es)))

@@ -1,22 +1,12 @@
 use mathlib.Core.Path.{ap, ◌∙◌}
-use native.Mathlib.Omega.{arith}
 use Rattle.text.specs.Text.{put_of}
 use Rattle.text.specs.declared.Text.{Text}
 use Rattle.text.proofs.Writes.{puts-digit, puts-digits}
 use Prim.Native.Nat.{◌+◌, ◌%◌}
 use Rattle.text.proofs.+number.Goals as goal
 
-pub put-requires : goal.put-requires
-put-requires t c = tt
-
 pub returns-then-n-lt10 : goal.returns-then-n-lt10
 returns-then-n-lt10 t c = c.put.ensures ∙ ap (put_of _) c.digit.ensures ∙ puts-digit _ _ c.if-n-lt10.true
-
-pub number-front-requires : goal.number-front-requires
-number-front-requires t c = (omega arith, tt)
-
-pub put-requires-2 : goal.put-requires-2
-put-requires-2 t c = tt
 
 pub returns : goal.returns
 returns t c =

@@ -1,12 +1,11 @@
-use mathlib.Core.Path.{refl}
-use Rattle.trim_file.proofs.Whole.{placed-answer, misplaced-thirteen, misplaced-own}
+use Rattle.std.proofs.lemmas.Result.{err_from_is_err_and}
+use Rattle.trim_file.proofs.Whole.{file-refused, file-trimmed}
 use Rattle.trim_file.proofs.answer.Goals as goal
 
-pub returns-then-not-misplaced : goal.returns-then-not-misplaced
-returns-then-not-misplaced c = placed-answer _ _ _ _ _ (c.if-not-misplaced.true) c.trim.ensures
+pub returns-in_err-table : goal.returns-in_err-table
+returns-in_err-table c =
+    let p = err_from_is_err_and c.from_residual.result c.from_residual.ensures.1 in
+    rw (p.1, p.2) (file-refused _ _ _ c.in_err-table.ensures)
 
-pub returns-then-number-eq0 : goal.returns-then-number-eq0
-returns-then-number-eq0 c = misplaced-thirteen _ _ _ _ _ _ (c.if-not-misplaced.false) c.of_table-number.ensures c.if-number-eq0.true refl
-
-pub returns-else-number-eq0 : goal.returns-else-number-eq0
-returns-else-number-eq0 c = misplaced-own _ _ _ _ _ _ (c.if-not-misplaced.false) c.of_table-number.ensures c.if-number-eq0.false refl
+pub returns : goal.returns
+returns c = file-trimmed _ _ _ _ _ _ c.in_ok-table.ensures c.tasks.ensures c.handlers.ensures c.trim.ensures

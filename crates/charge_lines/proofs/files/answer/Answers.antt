@@ -1,12 +1,15 @@
-use mathlib.Core.Path.{refl}
-use Rattle.charge_lines.proofs.Charged.{placed-answer, misplaced-thirteen, misplaced-own}
+use Rattle.std.proofs.lemmas.Result.{err_from_is_err_and}
+use Rattle.charge_lines.proofs.Charged.{answers-nineteen, answers-refused, answers-charged}
 use Rattle.charge_lines.proofs.files.answer.Goals as goal
 
-pub returns-then-not-misplaced : goal.returns-then-not-misplaced
-returns-then-not-misplaced c = placed-answer _ _ _ _ _ (c.if-not-misplaced.true) c.of_table.ensures
+pub returns-then-quantum : goal.returns-then-quantum
+returns-then-quantum c = answers-nineteen c.args.input.now c.args.quantum c.if-quantum.true
 
-pub returns-then-number-eq0 : goal.returns-then-number-eq0
-returns-then-number-eq0 c = misplaced-thirteen _ _ _ _ _ _ (c.if-not-misplaced.false) c.of_table-number.ensures c.if-number-eq0.true refl
+pub returns-in_err-table : goal.returns-in_err-table
+returns-in_err-table c =
+    let p = err_from_is_err_and c.from_residual.result c.from_residual.ensures.1 in
+    rw (p.1, p.2) (answers-refused _ _ c.if-quantum.false _ c.in_err-table.ensures)
 
-pub returns-else-number-eq0 : goal.returns-else-number-eq0
-returns-else-number-eq0 c = misplaced-own _ _ _ _ _ _ (c.if-not-misplaced.false) c.of_table-number.ensures c.if-number-eq0.false refl
+pub returns : goal.returns
+returns c =
+    answers-charged _ _ c.if-quantum.false _ _ _ _ c.in_ok-table.ensures c.tasks.ensures c.handlers.ensures c.of_table.ensures

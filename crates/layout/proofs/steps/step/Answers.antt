@@ -1,8 +1,5 @@
 use Rattle.layout.proofs.steps.step.Goals as goal
 
-pub returns-in-Head : goal.returns-in-Head
-returns-in-Head c = rw c.in-Head.is c.in_head.ensures
-
 pub returns-in-HeadCr : goal.returns-in-HeadCr
 returns-in-HeadCr c = rw c.in-HeadCr.is (c.at_end.ensures c.args.columns)
 
@@ -14,9 +11,6 @@ returns-in-Name c = rw c.in-Name.is (c.in_name.ensures c.args.columns)
 
 pub returns-in-First : goal.returns-in-First
 returns-in-First c = rw c.in-First.is (c.in_first.ensures c.args.columns)
-
-pub returns-in-Digits : goal.returns-in-Digits
-returns-in-Digits c = rw c.in-Digits.is c.in_digits.ensures
 
 pub returns-in-RowCr : goal.returns-in-RowCr
 returns-in-RowCr c = rw c.in-RowCr.is (c.at_end-in-RowCr.ensures c.args.columns)

@@ -6,8 +6,3 @@ returns-then-n-lt-SEGMENTS_MOST c =
     let x = c.args in
     λ es built. push-stored x.n x.numbers.now es built x.kind x.row x.from x.to c.if-n-lt-SEGMENTS_MOST.true _
     c.kind_number.ensures
-
-pub returns : goal.returns
-returns c =
-    let x = c.args in
-    λ es built. push-counted x.n x.numbers.now es built x.kind x.row x.from x.to c.if-n-lt-SEGMENTS_MOST.false

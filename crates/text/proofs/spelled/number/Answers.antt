@@ -1,29 +1,33 @@
-use mathlib.Core.Bool.{Bool}
-use mathlib.Core.Path.{sym, ap, ◌∙◌}
-use native.Mathlib.Nat.{pos_of_ne-zero}
-use Prim.Native.Nat.{ℕ, ◌-◌}
-use lib.ListN.{get_or, drop}
-use Rattle.demand.specs.Tests.{pick}
-use Rattle.text.specs.Spelled.{digits_from}
-use Rattle.text.proofs.Spellings.{spelled-nothing, spelled-first}
+use Rattle.std.proofs.Common.{◌∙◌, ◌+◌, ap, sym, refl, drop, ℕ, subst}
+use Rattle.std.specs.Prelude.{Some, None}
+use Rattle.text.specs.Spelled.{digits_said, Spells}
+use Rattle.text.proofs.Spellings.{spells-nothing, spells-stop, spells-on, digits-stop, digits-on, digits-end}
 use Rattle.text.proofs.spelled.number.Goals as goal
 
-pub returns-then-bytes-eq0 : goal.returns-then-bytes-eq0
-returns-then-bytes-eq0 c = sym (spelled-nothing c.args.limit c.args.bytes.now c.if-bytes-eq0.true)
+pub returns-in_err-first : goal.returns-in_err-first
+returns-in_err-first c =
+    subst (Spells c.args.limit c.args.bytes.now) (sym c.from_residual.ensures) (spells-nothing c.args.limit c.args.bytes.now c.in_err-first.ensures.cases)
 
 pub returns-then-not-is_digit : goal.returns-then-not-is_digit
 returns-then-not-is_digit c =
-    let bs = c.args.bytes.now in
-    sym (spelled-first c.args.limit bs (pos_of_ne-zero c.if-bytes-eq0.false) ∙ ap (λ (t : Bool). pick t (digits_from c.args.limit (get_or bs 0 0 - 48) (drop 1 bs)) c.args.limit) (sym c.is_digit.ensures ∙ c.if-not-is_digit.true))
+    spells-stop c.args.limit c.args.bytes.now _ _ None c.in_ok-first.ensures.cases.0 (sym c.is_digit.ensures ∙ c.if-not-is_digit.true) refl
 
-pub worth-requires : goal.worth-requires
-worth-requires c = sym c.is_digit.ensures ∙ c.if-not-is_digit.false
+pub returns-then-not-continues : goal.returns-then-not-continues
+returns-then-not-continues c =
+    let rest = c.in_ok-first.rest.now in
+    spells-on c.args.limit c.args.bytes.now _ _ None c.in_ok-first.ensures.cases.0 (sym c.is_digit.ensures ∙ c.if-not-is_digit.false)
+    c.from-v.result (c.from-v.ensures ∙ c.worth.ensures)
+    (sym (digits-stop c.args.limit c.loop-b.v rest c.loop-b.b-index c.loop-b-test.true (sym c.continues.ensures ∙ c.if-not-continues.true)) ∙ c.loop-b.invariant)
 
-pub digits_from-requires : goal.digits_from-requires
-digits_from-requires c = pos_of_ne-zero c.if-bytes-eq0.false
+pub loop-b-preserved : goal.loop-b-preserved
+loop-b-preserved c =
+    let rest = c.in_ok-first.rest.now in
+    ap (λ (v : ℕ). digits_said c.args.limit v (drop (c.loop-b.b-index + 1) rest)) c.extended-v.ensures
+    ∙ sym (digits-on c.args.limit c.loop-b.v rest c.loop-b.b-index c.loop-b-test.true (sym c.continues.ensures ∙ c.if-not-continues.false))
+    ∙ c.loop-b.invariant
 
 pub returns : goal.returns
 returns c =
-    let bs = c.args.bytes.now in
-    c.digits_from.ensures ∙ ap (λ (v : ℕ). digits_from c.args.limit v (drop 1 bs)) c.worth.ensures
-    ∙ sym (spelled-first c.args.limit bs (pos_of_ne-zero c.if-bytes-eq0.false) ∙ ap (λ (t : Bool). pick t (digits_from c.args.limit (get_or bs 0 0 - 48) (drop 1 bs)) c.args.limit) (sym c.is_digit.ensures ∙ c.if-not-is_digit.false))
+    spells-on c.args.limit c.args.bytes.now _ _ (Some c.loop-b.v) c.in_ok-first.ensures.cases.0 (sym c.is_digit.ensures ∙ c.if-not-is_digit.false)
+    c.from-v.result (c.from-v.ensures ∙ c.worth.ensures)
+    (sym (digits-end c.args.limit c.loop-b.v c.in_ok-first.rest.now c.loop-b.b-index c.loop-b-test.false) ∙ c.loop-b.invariant)

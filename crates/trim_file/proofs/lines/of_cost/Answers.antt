@@ -2,7 +2,4 @@ use Rattle.trim_file.proofs.Printed.{cost-written}
 use Rattle.trim_file.proofs.lines.of_cost.Goals as goal
 
 pub returns : goal.returns
-returns c =
-    let args = c.args in
-    cost-written args.row args.code args.old args.new
-    c.of.ensures c.number-task.ensures c.fields.ensures c.puts.ensures
+returns c = cost-written c.args.row c.args.code c.args.old c.args.new c.lines.ensures

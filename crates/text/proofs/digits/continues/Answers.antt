@@ -1,4 +1,0 @@
-use Rattle.text.proofs.digits.continues.Goals as goal
-
-pub returns : goal.returns
-returns c = simp c.is_digit.ensures
