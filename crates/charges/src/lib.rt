@@ -58,7 +58,7 @@ fn some_shorter(tasks: &[u32]) -> bool
     (task.deadline != task.period) | rest
 }
 
-// The charge by whole quanta, of a table of which it is known whether it is readable and plain.
+// The charge by whole quanta, of a table of which it is known whether it is readable and plain: asked once, for both charges.
 fn by_quantum(tasks: &[u32], handlers: &[u32], quantum: u64, known: bool) -> Option<Charge>
     requires { Known tasks.now handlers.now known × (quantum_outside quantum ≡ false) }
     ensures { result ≡ by_quantum quantum tasks.now handlers.now }

@@ -12,6 +12,7 @@ pub const COUNTS: usize = 9;
 fn guard_of(bursty: bool, counts: &[u32; COUNTS]) -> Guard
     ensures { result ≡ guard_of bursty counts.now }
 {
+    // The flag is how C tells the two guards apart; behind it they are an enum.
     if bursty {
         Guard::Bursty {
             n: counts[0],

@@ -43,6 +43,7 @@ fn along(q: &mut [Entry], p: Progress, m: u64) -> Progress
     ensures { Come q.old p m q.new result }
 {
     let mut w = p;
+    // No `for`: how many arrivals come up to m, the entries tell on the way.
     while q[0].next <= m {
         w = wait(w, q[0].next - 1);
         w.called = walk::take(q, w.called);

@@ -32,6 +32,7 @@ pub fn begin(kind: Kind, event: Event, s: &[u32], q: &mut [Entry]) -> usize
     let step = table::width(kind);
     let mut k = q.len();
     let mut rest = s;
+    // The rest of the list, as its rows are defined by the head and what is behind it; a walk by pieces would read no plainer.
     while step <= rest.len() {
         let row = table::head(kind, rest);
         let entry = Entry {

@@ -40,6 +40,7 @@ impl Refusal {
     pub fn number(self) -> u32
         ensures { result ≡ number_of self }
     {
+        // The discriminant is the number that 01 gives the refusal.
         self as u32
     }
 }

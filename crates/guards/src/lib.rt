@@ -106,6 +106,7 @@ fn ranged(interrupt: u64, timer: u64, period: u64) -> Result<Pair, Refusal>
         return Err(Refusal::RowOutOfRange);
     }
     Ok(Pair {
+        // In range, so below 2^32: a conversion that can fail would have nothing to tell.
         interrupt: interrupt as u32,
         timer: timer as u32,
         period: period as u32,

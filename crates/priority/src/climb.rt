@@ -28,6 +28,7 @@ fn up(tasks: &[u32], handlers: &[u32], end: u64, l: u64, deadline: u64) -> u64
     ensures { Climbed (claimed (tasks_of tasks.now) (handlers_of handlers.now) end) l deadline result }
 {
     let mut at = l;
+    // No `for`: each length is what the one before it lacks room for.
     while at <= deadline {
         let work = claimed(tasks, handlers, end, at);
         if work <= at {
@@ -42,6 +43,7 @@ fn up(tasks: &[u32], handlers: &[u32], end: u64, l: u64, deadline: u64) -> u64
 fn within(l: u64, deadline: u64) -> u64
     ensures { result ≡ pick (ltb deadline l) 0 l }
 {
+    // 0 and no Option: 01 prints 0 and hands C the same list.
     if deadline < l { 0 } else { l }
 }
 
@@ -53,7 +55,9 @@ pub fn all(tasks: &[u32], handlers: &[u32]) -> [u64; TASKS_MOST]
     let mut least = [0u64; TASKS_MOST];
     let mut l = 1;
     let mut rank = ranks::next(tasks, 0, 0);
+    // No `for`: the next rank is looked for among the tasks.
     while rank < PAST_RANKS {
+        // A rank is one number, since ranks are told apart and put in order by it alone; what is left by 64 is a place, so that no cast cuts.
         let place = (rank % 64) as usize;
         let deadline = table::row_at(Kind::Task, tasks, place).deadline;
         l = up(tasks, handlers, rank + 1, l, deadline);

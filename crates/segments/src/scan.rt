@@ -26,7 +26,8 @@ pub fn waits(handlers: &[u32], given: &[u64; PLACES], a: u64, far: u64) -> u64
     first
 }
 
-// The first deadline that a task does not meet, where it runs and where it rests.
+// The first deadline that a task does not meet, where it runs and where it rests. The flag is a fact about the row: a closure would have
+// to be picked by it all the same.
 fn late(row: Row, given: u64, a: u64, far: u64, runs: bool) -> u64
     requires { Looked (row_of row) given a × Sound (row_of row) }
     ensures { result ≡ pick runs (run_of far a (row_of row) given) (late_clock (row_of row) given) }

@@ -35,6 +35,7 @@ pub fn place(s: Segment) -> usize
     requires { s.row < tasks_most }
     ensures { result ≡ place_of s.kind s.row }
 {
+    // Of a row below 64 the place is the same number: usize has no From of u64, nor u64 one of usize.
     if s.kind == 0 {
         s.row as usize
     } else {
@@ -46,6 +47,7 @@ pub fn place(s: Segment) -> usize
 fn unknown(n: usize, m: usize, kind: u64, row: u64) -> bool
     ensures { result ≡ unknown n m (who_of kind row) }
 {
+    // A kind that is no row's is a refusal here, so the number stands as it was lent.
     if kind == 0 {
         return n as u64 <= row;
     }

@@ -9,7 +9,8 @@ use crate::{look, scan};
 use demand::table;
 use demand::table::{Kind, TASKS_MOST};
 
-// The first tick from a on that is not right; far where all are.
+// The first tick from a on that is not right; far where all are. Both lists and the ticks given stand alone in all of these: lists are
+// lent as 01 has them, and given alone changes.
 fn ticks(
     tasks: &[u32],
     handlers: &[u32],

@@ -41,6 +41,7 @@ pub fn greatest(tasks: &[u32], handlers: &[u32], row: usize, most: u32) -> Found
     let mut low: u32 = 1;
     let mut high = most;
     let mut turns: u32 = 0;
+    // No `for`: the gap between the two is halved.
     while low + 1 < high {
         let middle = low + (high - low) / 2;
         if fits_with(tasks, handlers, row, middle) {

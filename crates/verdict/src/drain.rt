@@ -19,6 +19,7 @@ pub fn climb(a: &mut [Entry], b: &mut [Entry], asked: u64, n: u64) -> u64
     ensures { Climbed a.old b.old asked n a.new b.new result }
 {
     let mut s = asked;
+    // No `for`: each tick is the work that is asked for by the one before it.
     while s < n {
         let more = take_to(a, b, s, s);
         if more == s {

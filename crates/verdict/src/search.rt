@@ -34,7 +34,8 @@ pub fn end_of(h: u64, w: u64, bound: u64) -> u64
     ((bound - 1) / (h - w)).min(h)
 }
 
-// How far to look for the idle point before an interval of n ticks is tested.
+// How far to look for the idle point before an interval of n ticks is tested: n or not at all, with the same steps either way, so that
+// no closure would tell more than the flag.
 fn sight(looks: bool, n: u64) -> u64
     ensures { result ≡ pick looks n 0 }
 {
@@ -42,7 +43,8 @@ fn sight(looks: bool, n: u64) -> u64
 }
 
 // The shortest interval from 1 to end that fails, along the deadlines t of tasks and the arrivals h of handlers. Where looks is
-// true it ends too once all has drained, by the arrivals a of tasks and b of handlers.
+// true it ends too once all has drained, by the arrivals a of tasks and b of handlers. Both lent lists and all four queues stand alone:
+// they are used at this one place, and a struct of them would be built here and taken apart here.
 fn search(
     tasks: &[u32],
     handlers: &[u32],
@@ -62,6 +64,7 @@ fn search(
     let mut p = arrivals::start();
     let mut asked = drain::take_to(a, b, 0, 1);
     let mut tested = 0;
+    // No `for`: the test lengths are told by the entries on the way.
     while t[0].next <= end {
         let n = t[0].next;
         let seen = sight(looks, n);

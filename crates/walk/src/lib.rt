@@ -47,6 +47,7 @@ pub fn take_to(q: &mut [Entry], sum: u64, n: u64) -> u64
         return sum;
     }
     let mut s = sum;
+    // No `for`: how many events come up to n, the entries tell on the way.
     while q[0].next <= n {
         let e = q[0];
         settle(
