@@ -1,7 +1,6 @@
 -- Runs and steps by place: the laws that the code meets.
 pub mod Answers
 pub mod Clauses
-pub mod Copies
 pub mod Earliest
 pub mod Goes
 pub mod OnePass

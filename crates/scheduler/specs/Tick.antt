@@ -4,7 +4,9 @@
 --   next_arrived, due_arrived, owed_arrived   == all rows' next arrivals, all tasks' deadlines and all rows' work owed after the arrivals ws
 --   GoesTo key owed n m ran   the tick goes to ran, of n tasks and m handlers that are owed `owed`: 01's rule, word for word
 --   goes_to key owed n m       == the one to whom it goes
+--   smaller best key          == a key is smaller than that of the task found, if one is
 --   better, earliest          == the task with the smallest key of those owed work, the lowest row of several, found row by row
+--   to_task best              == the one to whom the tick goes where no handler is owed work
 --   paid owed n ran           == work owed after the tick of ran
 --   is_late, late_row           == a task is owed work at its deadline; the first such row
 --   is_task late               == a row is named
@@ -13,7 +15,7 @@
 --   next_with, due_with, owed_with r ws   == what the rows of run r have after the arrivals ws
 --   key_in, ran_by, late_by key r ws      == then the key of each task, who runs, and who is late at the end of the tick
 --   ticked_by key r ws         == all of it, with the arrivals ws, where of the tasks owed work the one with the smallest key runs
-use Rattle.std.specs.Prelude.{Bool, true, false, not, ◌&&◌, ◌||◌, List, ◌≡◌, ℕ, zero, suc, ◌+◌, ◌-◌, ◌≤◌, ◌<◌, ltb, eqb, get_or, set}
+use Rattle.std.specs.Prelude.{Bool, true, false, ◌&&◌, List, Option, None, Some, ◌≡◌, ℕ, zero, suc, ◌+◌, ◌-◌, ◌≤◌, ◌<◌, ltb, eqb, get_or, set}
 use Rattle.demand.specs.Rows.{Row}
 use Rattle.demand.specs.Tests.{pick}
 use Rattle.machine.specs.Live.{Live}
@@ -76,16 +78,21 @@ GoesTo key owed n m (ran.Handler i) = ToHandler owed n m i
 GoesTo key owed n m (ran.Task i) = ToTask key owed n m i
 GoesTo key owed n m ran.Idle = ToNobody owed n m
 
--- Row k takes the place of the best so far where it is owed work and that has no smaller key.
-abbrev pub better : Best → ℕ → ℕ → ℕ → Best
-better best k owed key = pick (ltb 0 owed && (not best.found || ltb key best.key)) (record { found = true; row = k; key = key }) best
+abbrev pub smaller : Option Best → ℕ → Bool
+smaller None key = true
+smaller (Some best) key = ltb key best.key
 
-unfoldable pub earliest : (ℕ → ℕ) → List ℕ → ℕ → Best
-earliest key owed zero = record { found = false; row = 0; key = 0 }
+-- Row k takes the place of the best so far where it is owed work and that has no smaller key.
+abbrev pub better : Option Best → ℕ → ℕ → ℕ → Option Best
+better best k owed key = pick (ltb 0 owed && smaller best key) (Some (record { row = k; key = key })) best
+
+unfoldable pub earliest : (ℕ → ℕ) → List ℕ → ℕ → Option Best
+earliest key owed zero = None
 earliest key owed (suc n) = better (earliest key owed n) n (get_or owed n 0) (key n)
 
-abbrev pub to_task : Best → Ran
-to_task best = pick best.found (ran.Task best.row) ran.Idle
+abbrev pub to_task : Option Best → Ran
+to_task None = ran.Idle
+to_task (Some best) = ran.Task best.row
 
 abbrev pub owed_at : List ℕ → ℕ → ℕ → Bool
 owed_at owed n i = ltb 0 (get_or owed (n + i) 0)

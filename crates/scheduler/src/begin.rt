@@ -13,11 +13,7 @@ fn copy_in(out: &mut [u32], s: &[u32])
     requires { length s.now ≤ length out.old }
     ensures { out.new ≡ s.now ++ drop (length s.now) out.old }
 {
-    let mut k = 0;
-    while k < s.len() {
-        out[k] = s[k];
-        k += 1;
-    }
+    out[..s.len()].copy_from_slice(s);
 }
 
 // The fresh run of a table that meets no refusal.

@@ -122,20 +122,7 @@ impl Run {
 fn step_by(run: Run, key: Key, arrivals: &[u32]) -> Stepped
     ensures { StepSays (key_of key) run arrivals.now result }
 {
-    let late = run.late;
-    let number = refusal::of_step(
-        &run.tasks,
-        &run.handlers,
-        &run.next,
-        &run.due,
-        &run.owed,
-        run.task_count,
-        run.handler_count,
-        run.clock,
-        run.over,
-        late,
-        arrivals,
-    );
+    let number = refusal::of_step(&run, arrivals);
     if number == 0 {
         tick::ticked(run, key, arrivals)
     } else {

@@ -4,9 +4,9 @@ ghost use Rattle.demand.specs.Limits.{tasks_most};
 ghost use Rattle.demand.specs.Rows.{rows_of, width, row_at, row_of};
 ghost use Rattle.scheduler.specs.Inside.Counted.{Fitting};
 ghost use Rattle.scheduler.specs.Inside.Keys.{periods_of};
-ghost use Rattle.scheduler.specs.Runs.{row_on};
+ghost use Rattle.scheduler.specs.Runs.{row_in};
 
-use crate::sizes::{HANDLER_NUMBERS, TASK_NUMBERS};
+use crate::Run;
 use demand::table;
 use demand::table::{Kind, Row, TASKS_MOST};
 
@@ -27,35 +27,28 @@ pub fn row_of(kind: Kind, s: &[u32], i: usize) -> Row
     table::head(kind, &s[at..])
 }
 
-// The row at place k, of n tasks and m handlers behind them.
-pub fn row_at<'a>(
-    tasks: &'a [u32; TASK_NUMBERS],
-    handlers: &'a [u32; HANDLER_NUMBERS],
-    n: usize,
-    m: usize,
-    k: usize,
-) -> Row
-    requires { Fitting n m × (k < n + m) }
-    ensures { row_of result ≡ row_on tasks.now handlers.now n k }
+// The row at place k, handlers behind tasks.
+pub fn row_at(run: &Run, k: usize) -> Row
+    requires { Fitting run.now.task_count run.now.handler_count
+        × (k < run.now.task_count + run.now.handler_count) }
+    ensures { row_of result ≡ row_in run.now k }
 {
+    let n = run.task_count;
     if k < n {
-        row_of(Kind::Task, tasks, k)
+        row_of(Kind::Task, &run.tasks, k)
     } else {
-        row_of(Kind::Handler, handlers, k - n)
+        row_of(Kind::Handler, &run.handlers, k - n)
     }
 }
 
-// The periods of the first n tasks, and zeros behind.
-pub fn periods(tasks: &[u32; TASK_NUMBERS], n: usize) -> [u64; TASKS_MOST]
-    requires { n ≤ tasks_most }
-    ensures { result ≡ periods_of tasks.now n }
+// The periods of the tasks, and zeros behind.
+pub fn periods(run: &Run) -> [u64; TASKS_MOST]
+    requires { run.now.task_count ≤ tasks_most }
+    ensures { result ≡ periods_of run.now.tasks run.now.task_count }
 {
     let mut all = [0u64; TASKS_MOST];
-    let mut k = 0;
-    while k < n {
-        let row = row_of(Kind::Task, tasks, k);
-        all[k] = row.period;
-        k += 1;
+    for k in 0..run.task_count {
+        all[k] = row_of(Kind::Task, &run.tasks, k).period;
     }
     all
 }
