@@ -8,4 +8,5 @@ pub mod RowPlaces
 pub mod Scan
 pub mod Tables
 pub mod Keys
+pub mod Known
 pub mod Ticks

@@ -10,7 +10,7 @@ ghost use Rattle.scheduler.specs.Tick.{ahead, next_arrived, due_arrived, owed_ar
 
 use crate::sizes::PLACES;
 use crate::{Run, rows};
-use demand::table::{Kind, TASKS_MOST};
+use demand::table::TASKS_MOST;
 
 // Does an arrival come before its row's next legal tick?
 pub fn some_early(run: &Run, arrivals: &[u32]) -> bool
@@ -31,7 +31,7 @@ fn tasks_heavy(run: &Run, arrivals: &[u32]) -> bool
 {
     let mut bad = false;
     for k in 0..run.task_count {
-        let row = rows::row_of(Kind::Task, &run.tasks, k);
+        let row = rows::task(run, k);
         bad |= row.cost < u64::from(arrivals[k]);
     }
     bad
@@ -45,7 +45,7 @@ fn handlers_heavy(run: &Run, arrivals: &[u32]) -> bool
     let n = run.task_count;
     let mut bad = false;
     for i in 0..run.handler_count {
-        let row = rows::row_of(Kind::Handler, &run.handlers, i);
+        let row = rows::handler(run, i);
         bad |= row.cost < u64::from(arrivals[n + i]);
     }
     bad

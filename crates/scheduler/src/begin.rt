@@ -3,8 +3,8 @@ ghost use Rattle.std.specs.Prelude.{◌++◌, ◌≡◌, ◌≤◌, length, drop
 ghost use Rattle.demand.specs.Refusals.{table_refusal};
 ghost use Rattle.scheduler.specs.Start.{fresh_run, no_run};
 
+use crate::Run;
 use crate::sizes::{HANDLER_NUMBERS, PLACES, TASK_NUMBERS};
-use crate::{Late, Run};
 use demand::table;
 use demand::table::{Kind, TASKS_MOST};
 
@@ -30,12 +30,7 @@ pub fn fresh_run(tasks: &[u32], handlers: &[u32]) -> Run
         handlers: h,
         task_count: table::count(Kind::Task, tasks),
         handler_count: table::count(Kind::Handler, handlers),
-        clock: 0,
-        next: [0u64; PLACES],
-        due: [0u64; TASKS_MOST],
-        owed: [0u64; PLACES],
-        over: false,
-        late: Late::Nobody,
+        ..no_run()
     }
 }
 
@@ -53,6 +48,6 @@ pub fn no_run() -> Run
         due: [0u64; TASKS_MOST],
         owed: [0u64; PLACES],
         over: false,
-        late: Late::Nobody,
+        late: None,
     }
 }

@@ -8,9 +8,9 @@ ghost use Rattle.scheduler.specs.Inside.OnePass.{earliest_due, task_out, task_ou
 ghost use Rattle.scheduler.specs.Scans.{at, any};
 ghost use Rattle.scheduler.specs.Tick.{late_row};
 
-use crate::{Late, Run, places, rows, tick};
+use crate::{Run, places, rows, tick};
 use demand::table;
-use demand::table::{Kind, Row};
+use demand::table::Row;
 
 fn miscounts(n: usize, m: usize) -> bool
     ensures { result ≡ miscounts n m }
@@ -65,7 +65,7 @@ fn tasks_out(run: &Run, first: u64) -> bool
 {
     let mut bad = false;
     for k in 0..run.task_count {
-        let row = rows::row_of(Kind::Task, &run.tasks, k);
+        let row = rows::task(run, k);
         bad |= task_out(row, run.next[k], run.due[k], run.owed[k], run.clock, first);
     }
     bad
@@ -80,22 +80,17 @@ fn handlers_out(run: &Run) -> bool
     let n = run.task_count;
     let mut bad = false;
     for i in 0..run.handler_count {
-        let row = rows::row_of(Kind::Handler, &run.handlers, i);
+        let row = rows::handler(run, i);
         bad |= handler_out(row, run.next[n + i], run.owed[n + i], run.clock);
     }
     bad
 }
 
-fn names(late: Late, first: Late) -> bool
+// Is the late row named, and that of the first late task?
+fn names(late: Option<usize>, first: Option<usize>) -> bool
     ensures { result ≡ names late first }
 {
-    match late {
-        Late::Nobody => false,
-        Late::Task { row } => match first {
-            Late::Nobody => false,
-            Late::Task { row: other } => row == other,
-        },
-    }
+    late.is_some() & (late == first)
 }
 
 // Over, is its late row not the first late task; not over, does it name a late row?
@@ -107,7 +102,7 @@ fn late_out(run: &Run) -> bool
     if run.over {
         !names(run.late, tick::late_row(run))
     } else {
-        tick::is_task(run.late)
+        run.late.is_some()
     }
 }
 

@@ -1,30 +1,32 @@
-// Refusals 6 to 11: the lowest number that applies to a step, 0 where none does.
+// Refusals 6 to 11: the one of the lowest number that applies to a step.
 ghost use Rattle.std.specs.Prelude.{◌≡◌};
+ghost use Rattle.demand.specs.Numbered.{refused};
 ghost use Rattle.scheduler.specs.Steps.{step_refusal};
 
 use crate::{Run, arrivals, bounds};
+use demand::refusal::Refusal;
 
 // The refusal of a step of this run.
-pub fn of_step(run: &Run, arrivals: &[u32]) -> u32
-    ensures { result ≡ step_refusal run.now arrivals.now }
+pub fn of_step(run: &Run, arrivals: &[u32]) -> Result<(), Refusal>
+    ensures { refused result ≡ step_refusal run.now arrivals.now }
 {
     if bounds::out_of_bounds(run) {
-        return 6;
+        return Err(Refusal::RunOutOfBounds);
     }
     if run.over {
-        return 7;
+        return Err(Refusal::RunOver);
     }
     if run.clock == Run::TICKS_MOST {
-        return 8;
+        return Err(Refusal::ClockAtEnd);
     }
     if arrivals.len() != run.task_count + run.handler_count {
-        return 9;
+        return Err(Refusal::ArrivalsMiscounted);
     }
     if arrivals::some_early(run, arrivals) {
-        return 10;
+        return Err(Refusal::ArrivalEarly);
     }
     if arrivals::some_heavy(run, arrivals) {
-        return 11;
+        return Err(Refusal::ArrivalHeavy);
     }
-    0
+    Ok(())
 }

@@ -1,7 +1,7 @@
 // What stands at a place: a row of the table.
-ghost use Rattle.std.specs.Prelude.{◌≡◌, ◌+◌, ◌*◌, ◌<◌, ◌≤◌, length};
-ghost use Rattle.demand.specs.Limits.{tasks_most};
-ghost use Rattle.demand.specs.Rows.{rows_of, width, row_at, row_of};
+ghost use Rattle.std.specs.Prelude.{◌≡◌, ◌+◌, ◌*◌, ◌<◌, ◌≤◌};
+ghost use Rattle.demand.specs.Limits.{tasks_most, handlers_most};
+ghost use Rattle.demand.specs.Rows.{tasks_of, handlers_of, width, row_at, row_of};
 ghost use Rattle.scheduler.specs.Inside.Counted.{Fitting};
 ghost use Rattle.scheduler.specs.Inside.Keys.{periods_of};
 ghost use Rattle.scheduler.specs.Runs.{row_in};
@@ -18,13 +18,20 @@ pub fn numbers(kind: Kind, count: usize) -> usize
     table::width(kind) * count
 }
 
-// The row at place i of a flat list.
-pub fn row_of(kind: Kind, s: &[u32], i: usize) -> Row
-    requires { (i < tasks_most) × (width kind * i + width kind ≤ length s.now) }
-    ensures { row_of result ≡ row_at (rows_of kind s.now) i }
+// The row of task k.
+pub fn task(run: &Run, k: usize) -> Row
+    requires { k < tasks_most }
+    ensures { row_of result ≡ row_at (tasks_of run.now.tasks) k }
 {
-    let at = numbers(kind, i);
-    table::head(kind, &s[at..])
+    table::row_at(Kind::Task, &run.tasks, k)
+}
+
+// The row of handler i.
+pub fn handler(run: &Run, i: usize) -> Row
+    requires { i < handlers_most }
+    ensures { row_of result ≡ row_at (handlers_of run.now.handlers) i }
+{
+    table::row_at(Kind::Handler, &run.handlers, i)
 }
 
 // The row at place k, handlers behind tasks.
@@ -35,9 +42,9 @@ pub fn row_at(run: &Run, k: usize) -> Row
 {
     let n = run.task_count;
     if k < n {
-        row_of(Kind::Task, &run.tasks, k)
+        task(run, k)
     } else {
-        row_of(Kind::Handler, &run.handlers, k - n)
+        handler(run, k - n)
     }
 }
 
@@ -48,7 +55,7 @@ pub fn periods(run: &Run) -> [u64; TASKS_MOST]
 {
     let mut all = [0u64; TASKS_MOST];
     for k in 0..run.task_count {
-        all[k] = row_of(Kind::Task, &run.tasks, k).period;
+        all[k] = task(run, k).period;
     }
     all
 }

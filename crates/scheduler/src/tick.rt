@@ -5,10 +5,10 @@ ghost use Rattle.scheduler.specs.Inside.Counted.{Fitting, Payable};
 ghost use Rattle.scheduler.specs.Inside.Keys.{key_of, keys_on};
 ghost use Rattle.scheduler.specs.Scans.{at};
 ghost use Rattle.scheduler.specs.Steps.{step_refusal};
-ghost use Rattle.scheduler.specs.Tick.{better, earliest, goes_to, paid, late_row, is_task, closed, ticked_by};
+ghost use Rattle.scheduler.specs.Tick.{better, earliest, goes_to, paid, late_row, ticked_by};
 
 use crate::sizes::PLACES;
-use crate::{Answer, Late, Ran, Run, Stepped, arrivals, rows};
+use crate::{Ran, Run, Stepped, Ticked, arrivals, rows};
 use demand::table::TASKS_MOST;
 
 // By which number tasks are chosen: the earliest deadline runs first, or the shortest period.
@@ -89,22 +89,16 @@ fn pay(owed: &mut [u64; PLACES], n: usize, ran: Ran)
 }
 
 // The first task that is owed work at its deadline.
-pub fn late_row(run: &Run) -> Late
+pub fn late_row(run: &Run) -> Option<usize>
     requires { run.now.task_count ≤ tasks_most }
     ensures { result ≡ late_row run.now.clock (at run.now.due) run.now.owed run.now.task_count }
 {
     for k in 0..run.task_count {
         if (0 < run.owed[k]) & (run.due[k] == run.clock) {
-            return Late::Task { row: k };
+            return Some(k);
         }
     }
-    Late::Nobody
-}
-
-pub fn is_task(late: Late) -> bool
-    ensures { result ≡ is_task late }
-{
-    matches!(late, Late::Task { .. })
+    None
 }
 
 // An accepted step: arrivals, the tick, the clock, the late test.
@@ -121,9 +115,9 @@ pub fn ticked(run: Run, key: Key, arrivals: &[u32]) -> Stepped
     after.clock += 1;
     let late = late_row(&after);
     after.late = late;
-    after.over = is_task(late);
+    after.over = late.is_some();
     Stepped {
         run: after,
-        answer: Answer::Ticked { ran, late },
+        answer: Ok(Ticked { ran, late }),
     }
 }

@@ -7,4 +7,4 @@ pub loop-i-init : goal.loop-i-init
 loop-i-init c = sym (any-zero _)
 
 pub loop-i-preserved : goal.loop-i-preserved
-loop-i-preserved c = any-turn _ _ _ _ c.loop-i.invariant (simp (c.from.ensures, ap (λ (r : Row). r.cost) c.row_of-row.ensures))
+loop-i-preserved c = any-turn _ _ _ _ c.loop-i.invariant (simp (c.from.ensures, ap (λ (r : Row). r.cost) c.handler-row.ensures))

@@ -7,4 +7,4 @@ pub loop-k-init : goal.loop-k-init
 loop-k-init c = sym (any-zero _)
 
 pub loop-k-preserved : goal.loop-k-preserved
-loop-k-preserved c = any-turn _ _ _ _ c.loop-k.invariant (simp (c.from.ensures, ap (λ (r : Row). r.cost) c.row_of-row.ensures))
+loop-k-preserved c = any-turn _ _ _ _ c.loop-k.invariant (simp (c.from.ensures, ap (λ (r : Row). r.cost) c.task-row.ensures))

@@ -13,5 +13,5 @@ pub loop-i-preserved : goal.loop-i-preserved
 loop-i-preserved c =
     let run = c.args.run.now in
     let k = run.task_count + c.loop-i.i in
-    let row = ap (λ (w : Row). handler_out run.clock w (get_or run.next k 0) (get_or run.owed k 0)) c.row_of-row.ensures in
+    let row = ap (λ (w : Row). handler_out run.clock w (get_or run.next k 0) (get_or run.owed k 0)) c.handler-row.ensures in
     any-turn _ _ _ _ c.loop-i.invariant (c.handler_out-bad.ensures ∙ row)

@@ -12,5 +12,5 @@ pub loop-k-preserved : goal.loop-k-preserved
 loop-k-preserved c =
     let run = c.args.run.now in
     let k = c.loop-k.k in
-    let row = ap (λ (w : Row). task_out run.clock c.args.first w (get_or run.next k 0) (get_or run.due k 0) (get_or run.owed k 0)) c.row_of-row.ensures in
+    let row = ap (λ (w : Row). task_out run.clock c.args.first w (get_or run.next k 0) (get_or run.due k 0) (get_or run.owed k 0)) c.task-row.ensures in
     any-turn _ _ _ _ c.loop-k.invariant (c.task_out-bad.ensures ∙ row)

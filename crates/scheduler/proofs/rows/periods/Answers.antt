@@ -10,4 +10,4 @@ unfolding periods_of filled
 loop-k-init c = refl
 
 pub loop-k-preserved : goal.loop-k-preserved
-loop-k-preserved c = periods-next _ _ _ _ c.loop-k.invariant (ap (λ (r : Row). r.period) c.row_of.ensures)
+loop-k-preserved c = periods-next _ _ _ _ c.loop-k.invariant (ap (λ (r : Row). r.period) c.task.ensures)

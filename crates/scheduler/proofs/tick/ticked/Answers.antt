@@ -49,4 +49,4 @@ returns c =
     c.chosen-ran.ensures
     c.pay.ensures
     c.late_row-late.ensures
-    c.is_task.ensures
+    c.is_some.ensures
