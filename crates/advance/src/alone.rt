@@ -79,7 +79,13 @@ pub fn piece_after(run: Run, ran: Ran, left: u64) -> Piece
     requires { Follows run ran }
     ensures { result ≡ piece_after run ran left }
 {
-    let more = lasts(run.over, run.clock, left, work_of(&run, ran), first_due(&run));
+    let more = lasts(
+        run.over,
+        run.clock,
+        left,
+        work_of(&run, ran),
+        first_due(&run),
+    );
     if more == 0 {
         return Piece {
             run,
