@@ -11,6 +11,8 @@ pub mod Firsts
 pub mod Slides
 -- a piece after its first tick, and whole
 pub mod Pieces
+-- a refusal, or none, and its number
+pub mod Numbers
 -- one piece after the other
 pub mod Turns
 -- what meets the promises, and that they allow one answer

@@ -9,13 +9,13 @@ use Prim.Native.Nat.{ℕ, ◌+◌, ◌-◌, ◌≤◌, ◌<◌}
 use lib.Dec.{ltb, eqb}
 use lib.ListN.{length, get_or, set, get_or-eq_default}
 use lib.Seq.{get_or-set_same, get_or-set_other, set-set, set-get_or}
+use Rattle.std.specs.Prelude.{None, Some}
 use Rattle.advance.specs.Inside.Alone.{work_of, less_by, paid_by, Placed, PayableBy}
 use Rattle.demand.proofs.Divide.{le-or-lt}
 use Rattle.demand.specs.Limits.{tasks_most, handlers_most, ticks_most}
 use Rattle.scheduler.proofs.Steps.Goes.{goes-to, goes-once}
 use Rattle.scheduler.proofs.Steps.Scan.{any_false, first-none}
 use Rattle.scheduler.specs.Tick.{GoesTo, goes_to, is_late, late_row}
-use Rattle.scheduler.specs.declared.Late.TheVariants as late
 use Rattle.scheduler.specs.declared.Ran.{Ran}
 use Rattle.scheduler.specs.declared.Ran.TheVariants.{Handler, Task, Idle}
 
@@ -141,10 +141,10 @@ goes-placed key owed n m Idle few-tasks few-handlers g = tt
 
 -- Where every task owed work has its deadline ahead nobody is late.
 pub ahead-nobody : (clock : ℕ) (due : ℕ → ℕ) (owed : List ℕ) (n : ℕ)
-    → ((j : ℕ) → j < n → 0 < get_or owed j 0 → clock < due j) → late_row clock due owed n ≡ late.Nobody
+    → ((j : ℕ) → j < n → 0 < get_or owed j 0 → clock < due j) → late_row clock due owed n ≡ None
 unfolding late_row
 ahead-nobody clock due owed n ahead =
-    first-none (is_late clock due owed) late.Task n late.Nobody
+    first-none (is_late clock due owed) Some n None
     (any_false (is_late clock due owed) n (λ j l. go j l (ltb 0 (get_or owed j 0)) refl))
   where
     go : (j : ℕ) → j < n → (b : Bool) → ltb 0 (get_or owed j 0) ≡ b → (b && eqb (due j) clock) ≡ false

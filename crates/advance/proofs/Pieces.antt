@@ -7,6 +7,7 @@ use mathlib.Core.Path.{◌≡◌, refl, sym, ap, subst, ◌∙◌}
 use native.Mathlib.Omega.{arith}
 use Prim.Native.Nat.{ℕ, zero, suc, ◌+◌, ◌-◌, ◌≤◌, ◌<◌, min}
 use lib.ListN.{get_or}
+use Rattle.std.specs.Prelude.{None}
 use Rattle.advance.proofs.Firsts.{First, first-most, first-le, first-is}
 use Rattle.advance.proofs.Firsts.First.{last, of}
 use Rattle.advance.proofs.Paid.{paid-zero, paid-still, paid-off, goes-work, pays-by}
@@ -202,16 +203,16 @@ module _ (r : Run) (ran : Ran) (left : ℕ) (follows : Follows r ran) where
     pub made-few : (more ≡ 0 → ⊥) → more ≤ ticks_most
     made-few some = omega (arith, (lasts-lasting r ran left (omega arith) more (omega arith)).within)
 
-    pub made_none : more ≡ 0 → record { run = r; ran = ran; ticks = 1; number = 0 } ≡ piece_after r ran left
+    pub made_none : more ≡ 0 → record { run = r; ran = ran; ticks = 1; refusal = None } ≡ piece_after r ran left
     unfolding piece_after
     made_none e =
         let zero_left : k ≡ 0 = omega arith in
         let run : r ≡ stretch k r = sym (ap (λ (n : ℕ). stretch n r) zero_left ∙ stretch-zero r) in
         let ticks : 1 ≡ k + 1 = omega arith in
-        λ i. record { run = run i; ran = ran; ticks = ticks i; number = 0 }
+        λ i. record { run = run i; ran = ran; ticks = ticks i; refusal = None }
 
     pub made_some : (before : Run) (step : Stepped) → (more ≡ 0 → ⊥) → before ≡ slid r ran (more - 1) → step ≡ quietly before
-        → record { run = step.run; ran = ran; ticks = more + 1; number = 0 } ≡ piece_after r ran left
+        → record { run = step.run; ran = ran; ticks = more + 1; refusal = None } ≡ piece_after r ran left
     unfolding piece_after
     made_some before step some eb el =
         let d : ℕ = more - 1 in
@@ -221,7 +222,7 @@ module _ (r : Run) (ran : Ran) (left : ℕ) (follows : Follows r ran) where
         = ap (λ (x : Stepped). x.run) el ∙ ap (λ (x : Run). (quietly x).run) slides
         ∙ sym (stretch-next r d) ∙ ap (λ (n : ℕ). stretch n r) e in
         let ticks : more + 1 ≡ k + 1 = omega arith in
-        λ i. record { run = run i; ran = ran; ticks = ticks i; number = 0 }
+        λ i. record { run = run i; ran = ran; ticks = ticks i; refusal = None }
 
 -- From what the code has in hand.
 pub lasts-made : (r : Run) (ran : Ran) (left work first more : ℕ) → work ≡ work_of r.owed r.task_count ran

@@ -8,6 +8,7 @@ use borrow.Author.Tests.{le-ltb}
 use Prim.Native.Nat.{ℕ, zero, suc, ◌+◌, ◌*◌, ◌≤◌, ◌<◌}
 use lib.ListN.{length, get_or, take, drop, replicate}
 use lib.Seq.{set-get_or}
+use Rattle.std.specs.Prelude.{Ok}
 use Rattle.advance.specs.Inside.Alone.{paid_by, stood, runner}
 use Rattle.advance.specs.Stretch.{quiet, quietly}
 use Rattle.demand.specs.Limits.{tasks_most, handlers_most, ticks_most}
@@ -27,7 +28,6 @@ use Rattle.scheduler.specs.Scans.{at, filled}
 use Rattle.scheduler.specs.Start.{zeros}
 use Rattle.scheduler.specs.Steps.{early, heavy, step_refusal, step_of}
 use Rattle.scheduler.specs.Tick.{next_arrived, due_arrived, owed_arrived, paid, late_row, ticked_by}
-use Rattle.scheduler.specs.declared.Answer.TheVariants.{Ticked}
 use Rattle.scheduler.specs.declared.Ran.{Ran}
 use Rattle.scheduler.specs.declared.Ran.TheVariants.{Handler, Task, Idle}
 use Rattle.scheduler.specs.declared.Run.{Run}
@@ -58,7 +58,7 @@ paid-least owed n ran j = omega (arith, paid-le owed n ran j, ap (λ (xs : List 
 abbrev pub tick_on : Run → Stepped
 tick_on r =
     let owed = paid_by r.owed r.task_count (runner r) 1 in
-    record { run = stood r (r.clock + 1) owed; answer = Ticked (runner r) (late_row (r.clock + 1) (at r.due) owed r.task_count) }
+    record { run = stood r (r.clock + 1) owed; answer = Ok (record { ran = runner r; late = late_row (r.clock + 1) (at r.due) owed r.task_count }) }
 
 module _ (r : Run) where
   none-arrive : (k : ℕ) → get_or (quiet r) k 0 ≡ 0

@@ -9,6 +9,7 @@ use native.Mathlib.Nat.{eq-or-lt_of_le, le_of_suc-le-suc, not-suc-le-zero}
 use native.Mathlib.Omega.{arith}
 use Prim.Native.Nat.{ℕ, zero, suc, ◌+◌, ◌≤◌, ◌<◌}
 use lib.ListN.{get_or}
+use Rattle.std.specs.Prelude.{Option, None, Some}
 use Rattle.advance.proofs.Paid.{paid-zero, paid-add, paid-most, goes_on, ahead-nobody}
 use Rattle.advance.proofs.Quietly.{quiet-passes, quiet_step}
 use Rattle.advance.proofs.Stretches.{stretch-zero, stretch-next, stretch-inside}
@@ -24,8 +25,6 @@ use Rattle.scheduler.specs.Bounds.{InBounds}
 use Rattle.scheduler.specs.Scans.{at}
 use Rattle.scheduler.specs.Steps.{step_refusal}
 use Rattle.scheduler.specs.Tick.{is_task}
-use Rattle.scheduler.specs.declared.Late.{Late}
-use Rattle.scheduler.specs.declared.Late.TheVariants as late
 use Rattle.scheduler.specs.declared.Ran.{Ran}
 use Rattle.scheduler.specs.declared.Run.{Run}
 use Rattle.scheduler.specs.declared.Stepped.{Stepped}
@@ -46,9 +45,9 @@ went_back r ran w = go (outcome due_of r (quiet r))
 
 -- ---- no tick at all
 
-nobody-named : (l : Late) → is_task l ≡ false → late.Nobody ≡ l
-nobody-named late.Nobody e = refl
-nobody-named (late.Task i) e = absurd (false≢true (sym e))
+nobody-named : (l : Option ℕ) → is_task l ≡ false → None ≡ l
+nobody-named None e = refl
+nobody-named (Some i) e = absurd (false≢true (sym e))
 
 slid-zero : (r : Run) (ran : Ran) → InBounds r → r.over ≡ false → slid r ran 0 ≡ r
 unfolding slid
@@ -116,7 +115,7 @@ stood-slid : (r : Run) (ran : Ran) (d : ℕ) → Lasting r ran (suc d) → 0 < d
     → stood r (r.clock + d) (paid_by r.owed r.task_count ran d) ≡ slid r ran d
 unfolding slid
 stood-slid r ran d lasts some =
-    ap (λ (l : Late). standing r (r.clock + d) (paid_by r.owed r.task_count ran d) l)
+    ap (λ (l : Option ℕ). standing r (r.clock + d) (paid_by r.owed r.task_count ran d) l)
     (ahead-nobody (r.clock + d) (at r.due) (paid_by r.owed r.task_count ran d) r.task_count
     (λ j l work.
     let most = paid-most r.owed r.task_count ran d j (omega (arith, lasts.work)) in

@@ -1,28 +1,21 @@
 // What is left of a piece after its first tick: the one that runs goes on until its work is done, the ticks asked for are over, or
 // a deadline of a task owed work, or the last tick, is reached.
-ghost use Rattle.std.specs.Prelude.{◌≡◌, ◌+◌, ◌≤◌, min};
+ghost use Rattle.std.specs.Prelude.{◌≡◌, ◌+◌, ◌≤◌};
 ghost use Rattle.advance.specs.Inside.Alone.{Placed, PayableBy, Follows, work_of, nearer, first_due, lasts, paid_by, slid, piece_after};
 ghost use Rattle.demand.specs.Limits.{tasks_most, ticks_most};
 
 use crate::{Piece, quiet};
-use demand::table::TASKS_MOST;
 use scheduler::sizes::PLACES;
-use scheduler::{Late, Ran, Run};
-
-fn lesser(a: u64, b: u64) -> u64
-    ensures { result ≡ min a b }
-{
-    if a < b { a } else { b }
-}
+use scheduler::{Ran, Run};
 
 // The work of the one that runs; the last tick where nobody does.
-fn work_of(owed: &[u64; PLACES], n: usize, ran: Ran) -> u64
-    requires { (n ≤ tasks_most) × Placed ran }
-    ensures { result ≡ work_of owed.now n ran }
+fn work_of(run: &Run, ran: Ran) -> u64
+    requires { (run.now.task_count ≤ tasks_most) × Placed ran }
+    ensures { result ≡ work_of run.now.owed run.now.task_count ran }
 {
     match ran {
-        Ran::Handler { row } => owed[n + row],
-        Ran::Task { row } => owed[row],
+        Ran::Handler { row } => run.owed[run.task_count + row],
+        Ran::Task { row } => run.owed[row],
         Ran::Idle => Run::TICKS_MOST,
     }
 }
@@ -30,21 +23,17 @@ fn work_of(owed: &[u64; PLACES], n: usize, ran: Ran) -> u64
 fn nearer(first: u64, owed: u64, due: u64) -> u64
     ensures { result ≡ nearer first owed due }
 {
-    if owed == 0 { first } else { lesser(first, due) }
+    if owed == 0 { first } else { first.min(due) }
 }
 
 // The earliest deadline of a task owed work; the last tick where there is none before it.
-fn first_due<'a>(due: &'a [u64; TASKS_MOST], owed: &'a [u64; PLACES], n: usize) -> u64
-    requires { n ≤ tasks_most }
-    ensures { result ≡ first_due due.now owed.now n }
+fn first_due(run: &Run) -> u64
+    requires { run.now.task_count ≤ tasks_most }
+    ensures { result ≡ first_due run.now.due run.now.owed run.now.task_count }
 {
     let mut first = Run::TICKS_MOST;
-    let mut k = 0;
-    while k < n {
-        let o = owed[k];
-        let d = due[k];
-        first = nearer(first, o, d);
-        k += 1;
+    for k in 0..run.task_count {
+        first = nearer(first, run.owed[k], run.due[k]);
     }
     first
 }
@@ -56,10 +45,7 @@ fn lasts(over: bool, clock: u64, left: u64, work: u64, first: u64) -> u64
     if over {
         return 0;
     }
-    if first <= clock {
-        return 0;
-    }
-    lesser(left, lesser(work, first - clock))
+    left.min(work.min(first.saturating_sub(clock)))
 }
 
 // So many ticks take as many units of the work of the one to whom they go.
@@ -68,15 +54,8 @@ fn pay_by(owed: &mut [u64; PLACES], n: usize, ran: Ran, ticks: u64)
     ensures { owed.new ≡ paid_by owed.old n ran ticks }
 {
     match ran {
-        Ran::Handler { row } => {
-            let k = n + row;
-            let o = owed[k];
-            owed[k] = o - ticks;
-        }
-        Ran::Task { row } => {
-            let o = owed[row];
-            owed[row] = o - ticks;
-        }
+        Ran::Handler { row } => owed[n + row] -= ticks,
+        Ran::Task { row } => owed[row] -= ticks,
         Ran::Idle => {}
     }
 }
@@ -87,24 +66,12 @@ fn slide(run: Run, ran: Ran, ticks: u64) -> Run
         × (run.clock + ticks ≤ ticks_most) }
     ensures { result ≡ slid run ran ticks }
 {
-    let tasks = run.tasks;
-    let handlers = run.handlers;
-    let next = run.next;
-    let due = run.due;
-    let mut owed = run.owed;
-    pay_by(&mut owed, run.task_count, ran, ticks);
-    Run {
-        tasks,
-        handlers,
-        task_count: run.task_count,
-        handler_count: run.handler_count,
-        clock: run.clock + ticks,
-        next,
-        due,
-        owed,
-        over: false,
-        late: Late::Nobody,
-    }
+    let mut after = run;
+    pay_by(&mut after.owed, run.task_count, ran, ticks);
+    after.clock += ticks;
+    after.over = false;
+    after.late = None;
+    after
 }
 
 // The piece whose first tick went to ran and left this run. Its last tick is a step, which finds who is late.
@@ -112,26 +79,26 @@ pub fn piece_after(run: Run, ran: Ran, left: u64) -> Piece
     requires { Follows run ran }
     ensures { result ≡ piece_after run ran left }
 {
-    let n = run.task_count;
-    let work = work_of(&run.owed, n, ran);
-    let first = first_due(&run.due, &run.owed, n);
-    let more = lasts(run.over, run.clock, left, work, first);
+    let more = lasts(
+        run.over,
+        run.clock,
+        left,
+        work_of(&run, ran),
+        first_due(&run),
+    );
     if more == 0 {
-        Piece {
+        return Piece {
             run,
             ran,
             ticks: 1,
-            number: 0,
-        }
-    } else {
-        let before = slide(run, ran, more - 1);
-        let last = quiet::step(before);
-        let after = last.run;
-        Piece {
-            run: after,
-            ran,
-            ticks: more + 1,
-            number: 0,
-        }
+            refusal: None,
+        };
+    }
+    let before = slide(run, ran, more - 1);
+    Piece {
+        run: quiet::step(before).run,
+        ran,
+        ticks: more + 1,
+        refusal: None,
     }
 }

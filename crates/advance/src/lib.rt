@@ -5,26 +5,28 @@ mod alone;
 mod quiet;
 
 ghost use Rattle.std.specs.Prelude.{◌≡◌};
+ghost use Rattle.advance.specs.Inside.Alone.{no_tick};
 ghost use Rattle.advance.specs.Promise.{PieceSays};
 ghost use Rattle.advance.specs.Stretch.{advance_of};
 
-use scheduler::{Answer, Ran, Run};
+use demand::refusal::Refusal;
+use scheduler::{Ran, Run};
 
-// The run after a piece, who got each of its ticks, how many they are, and the number of the refusal where a step is refused at once.
-#[derive(Clone, Copy)]
+// The run after a piece, who got each of its ticks, how many they are, and the refusal where a step is refused at once.
+#[derive(Clone, Copy, Debug, PartialEq, Eq)]
 pub struct Piece {
     pub run: Run,
     pub ran: Ran,
     pub ticks: u64,
-    pub number: u32,
+    pub refusal: Option<Refusal>,
 }
 
-// The run after a stretch, how many of its ticks were run, and the number of the refusal that ended it, 0 where all were.
-#[derive(Clone, Copy)]
+// The run after a stretch, how many of its ticks were run, and the refusal that ended it, if not all were.
+#[derive(Clone, Copy, Debug, PartialEq, Eq)]
 pub struct Advanced {
     pub run: Run,
     pub ticks: u64,
-    pub number: u32,
+    pub refusal: Option<Refusal>,
 }
 
 // The longest stretch without arrivals, of at most so many ticks, in which one row, or nobody, gets every tick.
@@ -32,27 +34,26 @@ pub fn next_piece(run: Run, most: u64) -> Piece
     ensures { PieceSays run most result }
 {
     let first = quiet::step(run);
-    let answer = first.answer;
-    match answer {
-        Answer::Refused { number } => Piece {
-            run,
-            ran: Ran::Idle,
-            ticks: 0,
-            number,
-        },
-        Answer::Ticked { ran, late: _ } => {
+    match first.answer {
+        Err(refusal) => no_tick(run, Some(refusal)),
+        Ok(ticked) => {
             if most == 0 {
-                Piece {
-                    run,
-                    ran: Ran::Idle,
-                    ticks: 0,
-                    number: 0,
-                }
+                no_tick(run, None)
             } else {
-                let next = first.run;
-                alone::piece_after(next, ran, most - 1)
+                alone::piece_after(first.run, ticked.ran, most - 1)
             }
         }
+    }
+}
+
+fn no_tick(run: Run, refusal: Option<Refusal>) -> Piece
+    ensures { result ≡ no_tick run refusal }
+{
+    Piece {
+        run,
+        ran: Ran::Idle,
+        ticks: 0,
+        refusal,
     }
 }
 
@@ -61,26 +62,24 @@ pub fn advance(run: Run, ticks: u64) -> Advanced
     ensures { result ≡ advance_of run ticks }
 {
     if ticks == 0 {
-        let none = next_piece(run, 0);
         return Advanced {
             run,
             ticks: 0,
-            number: none.number,
+            refusal: next_piece(run, 0).refusal,
         };
     }
     let mut at = run;
     let mut left = ticks;
-    let mut number = 0u32;
-    while (0 < left) & (number == 0) {
+    let mut refusal = None;
+    while (0 < left) & refusal.is_none() {
         let next = next_piece(at, left);
-        let after = next.run;
-        at = after;
+        at = next.run;
         left -= next.ticks;
-        number = next.number;
+        refusal = next.refusal;
     }
     Advanced {
         run: at,
         ticks: ticks - left,
-        number,
+        refusal,
     }
 }

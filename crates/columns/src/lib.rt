@@ -1,35 +1,19 @@
 // Tables held by column: all costs, then all periods, then all deadlines. Put into row order once, here and nowhere else.
 #![tactic(auto)]
 
-ghost use Rattle.std.specs.Prelude.{false, ◌≡◌, ◌*◌, ◌≤◌, ◌<◌, length, take};
-ghost use Rattle.columns.specs.Held.{most_numbers, unheld, padded, table_held};
+ghost use Rattle.std.specs.Prelude.{false, ◌≡◌, ◌*◌, ◌≤◌, ◌<◌};
+ghost use Rattle.columns.specs.Held.{most_numbers, unheld, table_held};
 ghost use Rattle.columns.specs.Order.{by_column, row_order};
 
+use demand::flat::Flat;
 use demand::table;
 use demand::table::{HANDLER_NUMBERS, Kind, TASK_NUMBERS};
 
-// A list in row order, and zeros behind.
-#[derive(Clone, Copy)]
-pub struct Flat {
-    pub numbers: [u32; TASK_NUMBERS],
-    pub len: usize,
-}
-
-impl Flat {
-    // The numbers of the list.
-    pub fn as_slice(&self) -> &[u32]
-        requires { self.now.len ≤ length self.now.numbers }
-        ensures { result.now ≡ take self.now.len self.now.numbers }
-    {
-        &self.numbers[..self.len]
-    }
-}
-
 // A table in row order.
-#[derive(Clone, Copy)]
+#[derive(Drop)]
 pub struct Table {
-    pub tasks: Flat,
-    pub handlers: Flat,
+    pub tasks: Flat<TASK_NUMBERS>,
+    pub handlers: Flat<TASK_NUMBERS>,
 }
 
 // The most numbers of a list that a table may have.
@@ -58,18 +42,17 @@ fn place(w: usize, n: usize, i: usize) -> usize
 }
 
 // A list that is held by column, in row order.
-fn in_rows(kind: Kind, numbers: &[u32]) -> Flat
+fn in_rows(kind: Kind, numbers: &[u32]) -> Flat<TASK_NUMBERS>
     requires { unheld kind numbers.now ≡ false }
-    ensures { result ≡ padded (row_order kind numbers.now) }
+    ensures { result ≡ row_order kind numbers.now }
 {
-    let len = numbers.len();
     let w = table::width(kind);
-    let n = len / w;
-    let mut out = [0u32; TASK_NUMBERS];
-    for i in 0..len {
-        out[i] = numbers[place(w, n, i)];
+    let n = numbers.len() / w;
+    let mut out = Flat::new();
+    for i in 0..numbers.len() {
+        out.push(numbers[place(w, n, i)]);
     }
-    Flat { numbers: out, len }
+    out
 }
 
 // The table of two lists held by column, in row order: at most 192 and 32 numbers are copied. None where its counts alone refuse it.

@@ -3,6 +3,7 @@
 
 pub mod arrivals;
 pub mod events;
+pub mod flat;
 pub mod multiples;
 pub mod refusal;
 mod rows;

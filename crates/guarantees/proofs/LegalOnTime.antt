@@ -4,16 +4,14 @@ use mathlib.Core.List.{List}
 use mathlib.Core.Path.{◌≡◌, refl, sym, ap, ◌∙◌}
 use native.Mathlib.Omega.{arith}
 use Prim.Native.Nat.{ℕ, suc}
+use Rattle.std.specs.Prelude.{Ok, Option, None, Some}
 use Rattle.machine.specs.Live.{Live, due_of}
 use Rattle.scheduler.specs.Promise as step
 use Rattle.scheduler.specs.Reached.{WellMade}
 use Rattle.scheduler.specs.Start.{fresh_of}
 use Rattle.scheduler.specs.Steps.{step_by}
 use Rattle.scheduler.specs.Tick.{is_task, ticked_by}
-use Rattle.scheduler.specs.declared.Late.{Late}
-use Rattle.scheduler.specs.declared.Late.TheVariants.{Nobody, Task}
 use Rattle.scheduler.specs.declared.Run.{Run}
-use Rattle.scheduler.specs.declared.Start.TheVariants.{Ready}
 use Rattle.scheduler.proofs.Reached.FreshBounds.{ready}
 use Rattle.scheduler.proofs.Steps.Answers.{step-ticks}
 use Rattle.scheduler.proofs.Steps.Clauses.{clauses}
@@ -28,13 +26,13 @@ use Rattle.guarantees.proofs.NeverLate.{never-late}
 use Rattle.guarantees.proofs.Patterns.{run-next, Followed, followed-accepted, followed}
 
 -- A run in bounds that is not over names no late row.
-going-nobody : (r : Run) → WellMade r → r.over ≡ false → r.late ≡ Nobody
+going-nobody : (r : Run) → WellMade r → r.over ≡ false → r.late ≡ None
 going-nobody r s going = go r.over r.late going (clauses r s.in_bounds).named
   where
-    go : (over : Bool) (late : Late) → over ≡ false → (not over && is_task late) ≡ false → late ≡ Nobody
-    go over Nobody e named = refl
-    go true (Task i) e named = cc
-    go false (Task i) e named = cc
+    go : (over : Bool) (late : Option ℕ) → over ≡ false → (not over && is_task late) ≡ false → late ≡ None
+    go over None e named = refl
+    go true (Some i) e named = cc
+    go false (Some i) e named = cc
 
 -- The late row of an accepted answer is that of its run.
 told-late : (key : Live → ℕ) (r : Run) (ws : List ℕ) → Accepted r ws → (step.figures (step_by key r ws).answer).late ≡ step.who_late (step_by key r ws).run.late
@@ -63,5 +61,5 @@ pub legal-on-time : LegalOnTime
 unfolding VerdictSays
 legal-on-time t h r says word arrivals legal n soon =
     let fits : SaysFits t h (figures r) = says-fits t h (figures r) word says in
-    let answer : (fresh_of t h).answer ≡ Ready = ap (λ x. x.answer) (fresh-ready t h (readable-table t h fits.readable)) in
+    let answer : (fresh_of t h).answer ≡ Ok tt = ap (λ x. x.answer) (fresh-ready t h (readable-table t h fits.readable)) in
     on-time-by due_of t h answer (never-late t h r says word) arrivals legal n soon

@@ -4,6 +4,8 @@ use mathlib.Core.Logic.{◌⊎◌, inl, inr}
 use mathlib.Core.Path.{◌≡◌, subst}
 use native.Mathlib.Omega.{arith}
 use Prim.Native.Nat.{ℕ, ◌≤◌, ◌<◌}
+use Rattle.demand.specs.declared.refusal.Refusal.{Refusal}
+use Rattle.std.specs.Prelude.{Result}
 use Rattle.demand.proofs.Divide.{le-or-lt}
 use Rattle.demand.proofs.Inside.Sizes.{tasks-valid, handlers-positive}
 use Rattle.demand.specs.Limits.{ticks_most}
@@ -31,7 +33,7 @@ least-le-period ts hs l fair shortest = go (le-or-lt l (common ts hs))
     go (inl short) = short
     go (inr long) = absurd (fits-never-fails ts hs l (end-enough ts hs fair (λ m from within. shortest.least m from (omega (arith, end-le ts hs)))) shortest)
 
-module _ (t h : List ℕ) (r : Answer) (says : VerdictSays t h r) (word : (figures r).word ≡ misses) where
+module _ (t h : List ℕ) (r : Result Answer Refusal) (says : VerdictSays t h r) (word : (figures r).word ≡ misses) where
   saying : SaysMisses t h (figures r)
   unfolding VerdictSays
   saying = says-misses t h (figures r) word says

@@ -2,7 +2,8 @@
 --   LateAtBy key t h l     the synchronous run by this key is accepted at every tick below l, over at clock l and not before
 --   LateAt t h l           so by the deadline
 --   LateExactly            after a no it is so at the named interval
-use Rattle.std.specs.Prelude.{true, false, List, ◌≡◌, ℕ, ◌≤◌, ◌<◌}
+use Rattle.demand.specs.declared.refusal.Refusal.{Refusal}
+use Rattle.std.specs.Prelude.{true, false, List, ◌≡◌, ℕ, ◌≤◌, ◌<◌, Result}
 use Rattle.verdict.specs.Promise.{figures, VerdictSays}
 use Rattle.verdict.specs.Promise.Word.{misses}
 use Rattle.verdict.specs.declared.Answer as verdict
@@ -25,4 +26,4 @@ abbrev pub LateAt : List ℕ → List ℕ → ℕ → Type 0
 LateAt t h l = LateAtBy due_of t h l
 
 abbrev pub LateExactly : Type 0
-LateExactly = (t h : List ℕ) (r : verdict.Answer) → VerdictSays t h r → (figures r).word ≡ misses → LateAt t h (figures r).interval
+LateExactly = (t h : List ℕ) (r : Result verdict.Answer Refusal) → VerdictSays t h r → (figures r).word ≡ misses → LateAt t h (figures r).interval

@@ -7,14 +7,14 @@
 --   LateBy t h i           the synchronous run by priority is late by the first deadline of task i, at which the machine still owes it work
 --   LateByPriority         so where task i has no length
 --   RespondsExactly        so every task has a length exactly where no run by priority from fresh is ever over
-use Rattle.std.specs.Prelude.{List, ◌≡◌, ℕ, ◌≤◌, ◌<◌, length, get_or}
+use Rattle.demand.specs.declared.refusal.Refusal.{Refusal}
+use Rattle.std.specs.Prelude.{List, ◌≡◌, ℕ, ◌≤◌, ◌<◌, length, get_or, Result}
 use Rattle.demand.specs.Limits.{ticks_most}
 use Rattle.demand.specs.Rows.{row_at, tasks_of, handlers_of}
 use Rattle.machine.specs.Live.{Live, due_of, period_of}
 use Rattle.machine.specs.Machine.{serve_by, sync_by}
 use Rattle.machine.specs.Places.{at_place}
 use Rattle.priority.specs.Answers as priority
-use Rattle.priority.specs.declared.Profile.{Profile}
 use Rattle.verdict.specs.Promise.{figures, VerdictSays, verdict_refusal}
 use Rattle.verdict.specs.Promise.Word.{fits}
 use Rattle.verdict.specs.declared.Answer as verdict
@@ -23,25 +23,25 @@ use Rattle.guarantees.specs.LegalOnTime.{OnTimeAt, NeverOver}
 use Rattle.guarantees.specs.Patterns.{LegalPattern}
 
 -- the length that the answer gives task i, 0 for none
-abbrev pub length_of : Profile → ℕ → ℕ
+abbrev pub length_of : Result (List ℕ) Refusal → ℕ → ℕ
 length_of p i = get_or (priority.figures p).least i 0
 
-pub record EachResponds (t h : List ℕ) (p : Profile) : Type 0 where
+pub record EachResponds (t h : List ℕ) (p : Result (List ℕ) Refusal) : Type 0 where
   pub says : priority.ResponsesSay t h p
   pub accepted : (priority.figures p).code ≡ 0
   pub each : (i : ℕ) → i < length (tasks_of t) → 0 < length_of p i
 
 abbrev pub NeverLateByPriority : Type 0
-NeverLateByPriority = (t h : List ℕ) (p : Profile) → EachResponds t h p → NeverOver period_of t h
+NeverLateByPriority = (t h : List ℕ) (p : Result (List ℕ) Refusal) → EachResponds t h p → NeverOver period_of t h
 
 abbrev pub OnTimeByPriority : Type 0
 OnTimeByPriority =
-    (t h : List ℕ) (p : Profile) → EachResponds t h p
+    (t h : List ℕ) (p : Result (List ℕ) Refusal) → EachResponds t h p
     → (arrivals : ℕ → List ℕ) → LegalPattern t h arrivals → (n : ℕ) → n < ticks_most → OnTimeAt period_of t h arrivals n
 
 abbrev pub FitsByDeadline : Type 0
 FitsByDeadline =
-    (t h : List ℕ) (p : Profile) (r : verdict.Answer) → EachResponds t h p → verdict_refusal t h ≡ 0 → VerdictSays t h r
+    (t h : List ℕ) (p : Result (List ℕ) Refusal) (r : Result verdict.Answer Refusal) → EachResponds t h p → verdict_refusal t h ≡ 0 → VerdictSays t h r
     → (figures r).word ≡ fits
 
 -- the task of place i in our machine's synchronous run by priority, at the clock of its first deadline
@@ -58,9 +58,9 @@ pub record LateBy (t h : List ℕ) (i : ℕ) : Type 0 where
 
 abbrev pub LateByPriority : Type 0
 LateByPriority =
-    (t h : List ℕ) (p : Profile) → priority.ResponsesSay t h p → (priority.figures p).code ≡ 0
+    (t h : List ℕ) (p : Result (List ℕ) Refusal) → priority.ResponsesSay t h p → (priority.figures p).code ≡ 0
     → (i : ℕ) → i < length (tasks_of t) → length_of p i ≡ 0 → LateBy t h i
 
 abbrev pub RespondsExactly : Type 0
 RespondsExactly =
-    (t h : List ℕ) (p : Profile) → priority.ResponsesSay t h p → (priority.figures p).code ≡ 0 → NeverOver period_of t h → EachResponds t h p
+    (t h : List ℕ) (p : Result (List ℕ) Refusal) → priority.ResponsesSay t h p → (priority.figures p).code ≡ 0 → NeverOver period_of t h → EachResponds t h p

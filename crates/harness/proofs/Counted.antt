@@ -5,15 +5,16 @@ use native.Mathlib.Nat.{zero-add, sub-zero}
 use native.Mathlib.Omega.{arith}
 use Prim.Native.Nat.{ℕ, zero, suc, ◌+◌, ◌-◌, ◌≤◌, ◌<◌}
 use lib.ListN.{replicate}
+use Rattle.std.specs.Prelude.{Result, Ok, Err}
+use Rattle.demand.specs.declared.refusal.Refusal.{Refusal}
 use Rattle.machine.specs.Live.{due_of}
 use Rattle.scheduler.specs.Books.{ticking, busy, busy_by}
 use Rattle.scheduler.specs.Promise.{StepSays}
-use Rattle.scheduler.specs.declared.Answer.{Answer}
-use Rattle.scheduler.specs.declared.Answer.TheVariants.{Ticked, Refused}
 use Rattle.scheduler.specs.declared.Ran.{Ran}
 use Rattle.scheduler.specs.declared.Ran.TheVariants.{Handler, Task, Idle}
 use Rattle.scheduler.specs.declared.Run.{Run}
 use Rattle.scheduler.specs.declared.Stepped.{Stepped}
+use Rattle.scheduler.specs.declared.Ticked.{Ticked}
 
 -- A step is at most one tick that is not idle.
 ticking-most : (ran : Ran) → ticking ran ≤ 1
@@ -21,9 +22,9 @@ ticking-most (Handler i) = omega arith
 ticking-most (Task i) = omega arith
 ticking-most Idle = omega arith
 
-pub busy-most : (a : Answer) → busy a ≤ 1
-busy-most (Ticked ran late) = ticking-most ran
-busy-most (Refused k) = omega arith
+pub busy-most : (a : Result Ticked Refusal) → busy a ≤ 1
+busy-most (Ok t) = ticking-most t.ran
+busy-most (Err e) = omega arith
 
 -- Steps to come, of ticks in all where i are done.
 pub to_come : ℕ → ℕ → List ℕ → Run → ℕ

@@ -6,45 +6,46 @@ use mathlib.Core.Path.{◌≡◌, refl, sym, ap, subst, ◌∙◌}
 use native.Mathlib.Nat.{eq-zero-or-pos}
 use native.Mathlib.Omega.{arith}
 use Prim.Native.Nat.{ℕ, zero, suc, ◌≤◌, ◌<◌}
+use Rattle.std.specs.Prelude.{Option, None, Some, Result, Ok, Err}
 use Rattle.demand.specs.Limits.{tasks_most}
+use Rattle.demand.specs.Numbered.{refusal_at, refused}
 use Rattle.demand.specs.Refusals.{table_refusal}
 use Rattle.demand.specs.Tests.{pick}
+use Rattle.demand.specs.declared.refusal.Refusal.{Refusal}
 use Rattle.machine.specs.Live.{Live}
-use Rattle.scheduler.specs.Promise.{figures, start_figures, FreshSays, StepSays}
+use Rattle.scheduler.specs.Promise.{tick_figures, figures, FreshSays, StepSays}
 use Rattle.scheduler.specs.Scans.{first_of}
 use Rattle.scheduler.specs.Start.{no_run, fresh_run}
 use Rattle.scheduler.specs.Steps.{step_refusal}
 use Rattle.scheduler.specs.Tick.{late_row, ticked_by}
-use Rattle.scheduler.specs.declared.Answer.TheVariants.{Ticked, Refused}
 use Rattle.scheduler.specs.declared.Fresh.{Fresh}
-use Rattle.scheduler.specs.declared.Late.{Late}
-use Rattle.scheduler.specs.declared.Late.TheVariants as late
 use Rattle.scheduler.specs.declared.Ran.{Ran}
 use Rattle.scheduler.specs.declared.Ran.TheVariants as ran
 use Rattle.scheduler.specs.declared.Run.{Run}
 use Rattle.scheduler.specs.declared.Stepped.{Stepped}
+use Rattle.scheduler.specs.declared.Ticked.{Ticked}
 use Rattle.scheduler.proofs.Promise.{fresh-unique, step-unique}
-use Rattle.scheduler.proofs.Steps.Answers.{passed, step-refused, Outcome, outcome}
+use Rattle.scheduler.proofs.Steps.Answers.{passed, step-refused, step-known, Outcome, outcome}
 use Rattle.scheduler.proofs.Steps.Answers.Outcome.{stays, goes}
 use Rattle.scheduler.proofs.Steps.Clauses.{clauses, clauses-fit}
 use Rattle.scheduler.proofs.Steps.Tables.{fresh-ready}
-use Rattle.harness.specs.Numbers.{answer_numbers, numbers_of, FiguresLaid, late_number, layout, run_numbers, refused_numbers, refused_layout, run_in, left_with, left_by, StepLaid, FreshLaidUnique, StepLaidUnique, RefusedKeeps}
+use Rattle.harness.specs.Numbers.{answer_numbers, numbers_of, FiguresLaid, late_number, run_numbers, refused_numbers, refused_layout, run_in, left_with, left_by, LateRows, FreshLaidUnique, StepLaidUnique, RefusedKeeps}
 
 -- ---- a late row that is told is one of at most 64
 
 -- The first of n places, or nobody.
-first-most : (p : ℕ → Bool) (n most : ℕ) (none : Late) → n ≤ most → late_number none ≤ most → late_number (first_of p late.Task n none) ≤ most
+first-most : (p : ℕ → Bool) (n most : ℕ) (none : Option ℕ) → n ≤ most → late_number none ≤ most → late_number (first_of p Some n none) ≤ most
 unfolding first_of
 first-most p zero most none few l = l
-first-most p (suc n) most none few l = first-most p n most (pick (p n) (late.Task n) none) (omega arith) (go (p n))
+first-most p (suc n) most none few l = first-most p n most (pick (p n) (Some n) none) (omega arith) (go (p n))
   where
-    go : (b : Bool) → late_number (pick b (late.Task n) none) ≤ most
+    go : (b : Bool) → late_number (pick b (Some n) none) ≤ most
     go true = omega arith
     go false = l
 
 row-most : (clock : ℕ) (due : ℕ → ℕ) (owed : List ℕ) (n most : ℕ) → n ≤ most → late_number (late_row clock due owed n) ≤ most
 unfolding late_row
-row-most clock due owed n most few = first-most _ n most late.Nobody few (omega arith)
+row-most clock due owed n most few = first-most _ n most None few (omega arith)
 
 -- Nobody is late beside a fresh run.
 pub fresh-late : (t h : List ℕ) (f : Fresh) → FreshSays t h f → late_number f.run.late ≤ tasks_most
@@ -58,69 +59,23 @@ fresh-late t h f says = go (eq-zero-or-pos (table_refusal t h))
 
 -- ---- what an answer tells of its step
 
-same-late : {a b : Ran} {x y : Late} → Ticked a x ≡ Ticked b y → x ≡ y
-same-late e = cc
-
--- Beside a refusal stands the run that was given.
-refused-same : (key : Live → ℕ) (r : Run) (ws : List ℕ) (s : Stepped) → StepSays key r ws s → (k : ℕ) → s.answer ≡ Refused k → s.run ≡ r
-unfolding ticked_by
-refused-same key r ws s says k is = go (outcome key r ws)
-  where
-    go : Outcome key r ws → s.run ≡ r
-    go (stays j e) = ap (λ (x : Stepped). x.run) (says.answer ∙ e)
-    go (goes none e) =
-        let same : (ticked_by key r ws).answer ≡ Refused k = sym (ap (λ (x : Stepped). x.answer) (says.answer ∙ e)) ∙ is in
-        absurd (let z : ◌≡◌ {A = ℕ} 0 1 = cc in omega arith)
+same-tick : {a b : Ticked} → ◌≡◌ {A = Result Ticked Refusal} (Ok a) (Ok b) → a ≡ b
+same-tick e = cc
 
 -- A tick names no late row above the 64th, in its run and in its answer.
-pub ticked-late : (key : Live → ℕ) (r : Run) (ws : List ℕ) (s : Stepped) → StepSays key r ws s → (ran : Ran) (now : Late) → s.answer ≡ Ticked ran now
-    → (late_number s.run.late ≤ tasks_most) × (late_number now ≤ tasks_most)
+pub late-rows : (key : Live → ℕ) (r : Run) (ws : List ℕ) (s : Stepped) → StepSays key r ws s → LateRows s
 unfolding ticked_by
-ticked-late key r ws s says ran now is = go (outcome key r ws)
+late-rows key r ws s says t is = go (outcome key r ws)
   where
-    go : Outcome key r ws → (late_number s.run.late ≤ tasks_most) × (late_number now ≤ tasks_most)
+    go : Outcome key r ws → (late_number s.run.late ≤ tasks_most) × (late_number t.late ≤ tasks_most)
     go (stays k e) =
-        let same : Refused k ≡ Ticked ran now = sym (ap (λ (x : Stepped). x.answer) (says.answer ∙ e)) ∙ is in
+        let same : Err (refusal_at k) ≡ Ok t = sym (ap (λ (x : Stepped). x.answer) (says.answer ∙ e)) ∙ is in
         absurd (let z : ◌≡◌ {A = ℕ} 0 1 = cc in omega arith)
     go (goes none e) =
         let few : r.task_count ≤ tasks_most = (clauses-fit r (clauses r (passed r ws none).in_bounds)).tasks in
         let own : late_number (ticked_by key r ws).run.late ≤ tasks_most = row-most _ _ _ r.task_count tasks_most few in
-        let told : (ticked_by key r ws).run.late ≡ now = same-late (sym (ap (λ (x : Stepped). x.answer) (says.answer ∙ e)) ∙ is) in
-        (subst (λ (x : Stepped). late_number x.run.late ≤ tasks_most) (sym (says.answer ∙ e)) own, subst (λ (l : Late). late_number l ≤ tasks_most) told own)
-
--- ---- what a step leaves
-
--- The step of the run that lent arrays tell.
-module _ (key : Live → ℕ) (t h next due owed fs ws : List ℕ) (given : Run) (told : given ≡ run_in t h next due owed fs) (s : Stepped)
-    (says : StepSays key given ws s) where
-  says-in : StepSays key (run_in t h next due owed fs) ws s
-  says-in = subst (λ (r : Run). StepSays key r ws s) told says
-
-  -- A tick lays the next run.
-  pub laid-ticked : (ran : Ran) (now : Late) → s.answer ≡ Ticked ran now → (left : List ℕ) → left ≡ layout s.run 0 ran now
-      → StepLaid key (run_in t h next due owed fs) fs ws s.run.next s.run.due s.run.owed left
-  laid-ticked ran now is left e = record {
-    stepped = s;
-    says = says-in;
-    next-laid = refl;
-    due-laid = refl;
-    owed-laid = refl;
-    figures-laid = e ∙ sym (ap (left_with fs s.run) is);
-  }
-
-  -- A refusal leaves all that the run had.
-  pub laid-refused : (k : ℕ) → s.answer ≡ Refused k → (left : List ℕ) → left ≡ refused_layout fs k
-      → StepLaid key (run_in t h next due owed fs) fs ws next due owed left
-  laid-refused k is left e =
-      let same : s.run ≡ run_in t h next due owed fs = refused-same key given ws s says k is ∙ told in
-      record {
-        stepped = s;
-        says = says-in;
-        next-laid = ap (λ (r : Run). r.next) (sym same);
-        due-laid = ap (λ (r : Run). r.due) (sym same);
-        owed-laid = ap (λ (r : Run). r.owed) (sym same);
-        figures-laid = e ∙ sym (ap (left_with fs s.run) is);
-      }
+        let told = same-tick (sym (ap (λ (x : Stepped). x.answer) (says.answer ∙ e)) ∙ is) in
+        (subst (λ (x : Stepped). late_number x.run.late ≤ tasks_most) (sym (says.answer ∙ e)) own, subst (λ (x : Ticked). late_number x.late ≤ tasks_most) told own)
 
 -- ---- what a call leaves is determined
 
@@ -132,7 +87,7 @@ fresh-laid-unique tasks handlers t h next due owed fs t' h' next' due' owed' fs'
       p.next-laid ∙ ap (λ (f : Fresh). f.run.next) same ∙ sym q.next-laid,
       p.due-laid ∙ ap (λ (f : Fresh). f.run.due) same ∙ sym q.due-laid,
       p.owed-laid ∙ ap (λ (f : Fresh). f.run.owed) same ∙ sym q.owed-laid,
-      p.figures-laid ∙ ap (λ (f : Fresh). run_numbers f.run ++ refused_numbers (start_figures f.answer)) same ∙ sym q.figures-laid,
+      p.figures-laid ∙ ap (λ (f : Fresh). run_numbers f.run ++ refused_numbers (refused f.answer)) same ∙ sym q.figures-laid,
     )
 
 pub step-laid-unique : StepLaidUnique
@@ -150,25 +105,25 @@ refused-keeps key t h next due owed fs ws next' due' owed' fs' laid some =
     let r : Run = run_in t h next due owed fs in
     let k : ℕ = step_refusal (run_in t h next due owed fs) ws in
     let same : laid.stepped.run ≡ r = laid.says.same some in
-    let is : laid.stepped.answer ≡ Refused k = ap (λ (x : Stepped). x.answer) (laid.says.answer ∙ step-refused key r ws k refl (λ none. omega arith)) in
+    let apart : k ≡ 0 → ⊥ = λ none. omega arith in
+    let is : laid.stepped.answer ≡ Err (refusal_at k) = ap (λ (x : Stepped). x.answer) (laid.says.answer ∙ step-refused key r ws k refl apart) in
     record {
       next-kept = laid.next-laid ∙ ap (λ (x : Run). x.next) same;
       due-kept = laid.due-laid ∙ ap (λ (x : Run). x.due) same;
       owed-kept = laid.owed-laid ∙ ap (λ (x : Run). x.owed) same;
-      figures-kept = laid.figures-laid ∙ ap (left_with fs laid.stepped.run) is;
+      figures-kept = laid.figures-laid ∙ ap (left_with fs laid.stepped.run) is ∙ ap (refused_layout fs) (step-known r ws apart);
     }
 
 -- ---- what is laid out of an answer are its figures
 
-ticked-laid : (ran : Ran) (late : Late) → answer_numbers 0 ran late ≡ numbers_of (figures (Ticked ran late))
-unfolding figures
-ticked-laid (ran.Handler i) late.Nobody = refl
-ticked-laid (ran.Handler i) (late.Task j) = refl
-ticked-laid (ran.Task i) late.Nobody = refl
-ticked-laid (ran.Task i) (late.Task j) = refl
-ticked-laid ran.Idle late.Nobody = refl
-ticked-laid ran.Idle (late.Task j) = refl
+ran-laid : (ran : Ran) (late : Option ℕ) → answer_numbers 0 ran late ≡ numbers_of (tick_figures ran late)
+ran-laid (ran.Handler i) None = refl
+ran-laid (ran.Handler i) (Some j) = refl
+ran-laid (ran.Task i) None = refl
+ran-laid (ran.Task i) (Some j) = refl
+ran-laid ran.Idle None = refl
+ran-laid ran.Idle (Some j) = refl
 
 pub figures-laid : FiguresLaid
 unfolding figures
-figures-laid = record { ticked = ticked-laid; refused = λ k. refl }
+figures-laid = record { ticked = λ t. ran-laid t.ran t.late; refused = λ e. refl }

@@ -8,37 +8,34 @@
 --   numbers_of g            == the four numbers of the figures g of an answer; FiguresLaid: those are what is laid out
 --   run_in t h next due owed fs   == the run that lent arrays tell
 --   left_by fs s            == the figures after a step: those of a refused one keep the run's five as they were
---   key_by ranked           == the key by which a step chooses: the period where it is by priority, else the deadline
---   order_by by kind s      == the list s, or its row order where it is held by column (02, M-111)
+--   LateRows s             no late row that the step s names is above the last that a run has room for
 --   FreshLaid, StepLaid    what a call leaves, of an answer that the promise of `fresh` or of a step by this key allows
 --   FreshLaidUnique, StepLaidUnique   and so nothing else
 --   RefusedKeeps           a refused step leaves the numbers of the run exactly as they were
-use Rattle.std.specs.Prelude.{Bool, true, false, not, List, [], ◌∷◌, ◌++◌, ◌≡◌, ℕ, ◌+◌, ◌-◌, ◌<◌, eqb, get_or}
-use Rattle.columns.specs.Order.{row_order}
+use Rattle.std.specs.Prelude.{Bool, true, false, not, List, [], ◌∷◌, ◌++◌, Option, None, Some, Result, Ok, Err, ◌≡◌, ℕ, ◌+◌, ◌-◌, ◌≤◌, ◌<◌, eqb, get_or}
+use Rattle.demand.specs.Limits.{tasks_most}
+use Rattle.demand.specs.Numbered.{number_of, refused as told}
 use Rattle.demand.specs.Tests.{pick}
-use Rattle.demand.specs.declared.table.Kind.{Kind}
-use Rattle.machine.specs.Live.{Live, due_of, period_of}
-use Rattle.scheduler.specs.Promise.{Who, nobody, handler, task, Figures, figures, row_ran, start_figures, FreshSays, StepSays}
+use Rattle.demand.specs.declared.refusal.Refusal.{Refusal}
+use Rattle.machine.specs.Live.{Live}
+use Rattle.scheduler.specs.Promise.{Who, nobody, handler, task, Figures, figures, row_ran, FreshSays, StepSays}
 use Rattle.scheduler.specs.Runs.{run_of}
 use Rattle.scheduler.specs.Steps.{step_refusal}
-use Rattle.scheduler.specs.declared.Answer.{Answer}
-use Rattle.scheduler.specs.declared.Answer.TheVariants.{Ticked, Refused}
 use Rattle.scheduler.specs.declared.Fresh.{Fresh}
-use Rattle.scheduler.specs.declared.Late.{Late}
-use Rattle.scheduler.specs.declared.Late.TheVariants as late
 use Rattle.scheduler.specs.declared.Ran.{Ran}
 use Rattle.scheduler.specs.declared.Ran.TheVariants as ran
 use Rattle.scheduler.specs.declared.Run.{Run}
 use Rattle.scheduler.specs.declared.Stepped.{Stepped}
+use Rattle.scheduler.specs.declared.Ticked.{Ticked}
 
 -- ---- a run and an answer
 
-abbrev pub late_number : Late → ℕ
-late_number late.Nobody = 0
-late_number (late.Task i) = i + 1
+abbrev pub late_number : Option ℕ → ℕ
+late_number None = 0
+late_number (Some i) = i + 1
 
-abbrev pub late_of : ℕ → Late
-late_of n = pick (eqb n 0) late.Nobody (late.Task (n - 1))
+abbrev pub late_of : ℕ → Option ℕ
+late_of n = pick (eqb n 0) None (Some (n - 1))
 
 abbrev pub over_number : Bool → ℕ
 over_number true = 1
@@ -55,10 +52,10 @@ ran_number ran.Idle = 0
 abbrev pub run_numbers : Run → List ℕ
 run_numbers r = r.task_count ∷ r.handler_count ∷ r.clock ∷ over_number r.over ∷ late_number r.late ∷ []
 
-abbrev pub answer_numbers : ℕ → Ran → Late → List ℕ
+abbrev pub answer_numbers : ℕ → Ran → Option ℕ → List ℕ
 answer_numbers code ran late = code ∷ ran_number ran ∷ row_ran ran ∷ late_number late ∷ []
 
-abbrev pub layout : Run → ℕ → Ran → Late → List ℕ
+abbrev pub layout : Run → ℕ → Ran → Option ℕ → List ℕ
 layout r code ran late = run_numbers r ++ answer_numbers code ran late
 
 abbrev pub refused_numbers : ℕ → List ℕ
@@ -91,17 +88,21 @@ abbrev pub numbers_of : Figures → List ℕ
 numbers_of g = g.code ∷ who_number g.ran ∷ g.row ∷ row_number g.late g.late_row ∷ []
 
 pub record FiguresLaid : Type 0 where
-  pub ticked : (ran : Ran) (late : Late) → answer_numbers 0 ran late ≡ numbers_of (figures (Ticked ran late))
-  pub refused : (k : ℕ) → refused_numbers k ≡ numbers_of (figures (Refused k))
+  pub ticked : (t : Ticked) → answer_numbers 0 t.ran t.late ≡ numbers_of (figures (Ok t))
+  pub refused : (e : Refusal) → refused_numbers (number_of e) ≡ numbers_of (figures (Err e))
 
 -- ---- what is left in the arrays
 
-abbrev pub left_with : List ℕ → Run → Answer → List ℕ
-left_with fs r (Ticked ran late) = layout r 0 ran late
-left_with fs r (Refused k) = refused_layout fs k
+abbrev pub left_with : List ℕ → Run → Result Ticked Refusal → List ℕ
+left_with fs r (Ok t) = layout r 0 t.ran t.late
+left_with fs r (Err e) = refused_layout fs (number_of e)
 
 abbrev pub left_by : List ℕ → Stepped → List ℕ
 left_by fs s = left_with fs s.run s.answer
+
+-- No late row that a tick names is above the last that a run has room for.
+abbrev pub LateRows : Stepped → Type 0
+LateRows s = (t : Ticked) → s.answer ≡ Ok t → (late_number s.run.late ≤ tasks_most) × (late_number t.late ≤ tasks_most)
 
 pub record FreshLaid (tasks handlers : List ℕ) (t h next due owed fs : List ℕ) : Type 0 where
   pub fresh : Fresh
@@ -111,16 +112,7 @@ pub record FreshLaid (tasks handlers : List ℕ) (t h next due owed fs : List �
   pub next-laid : next ≡ fresh.run.next
   pub due-laid : due ≡ fresh.run.due
   pub owed-laid : owed ≡ fresh.run.owed
-  pub figures-laid : fs ≡ run_numbers fresh.run ++ refused_numbers (start_figures fresh.answer)
-
--- a list as it is lent, or held by column
-abbrev pub order_by : Bool → Kind → List ℕ → List ℕ
-order_by true kind s = row_order kind s
-order_by false kind s = s
-
-abbrev pub key_by : Bool → Live → ℕ
-key_by true x = period_of x
-key_by false x = due_of x
+  pub figures-laid : fs ≡ run_numbers fresh.run ++ refused_numbers (told fresh.answer)
 
 pub record StepLaid (key : Live → ℕ) (r : Run) (fs ws : List ℕ) (next' due' owed' fs' : List ℕ) : Type 0 where
   pub stepped : Stepped

@@ -5,36 +5,24 @@
 
 mod numbers;
 
-ghost use Rattle.std.specs.Prelude.{◌≡◌, replicate};
-ghost use Rattle.harness.specs.Numbers.{run_in, key_by, order_by, FreshLaid, StepLaid};
+ghost use Rattle.std.specs.Prelude.{◌≡◌, ◌≤◌, ◌++◌, replicate};
+ghost use Rattle.harness.specs.Numbers.{run_in, run_numbers, refused_numbers, late_number, left_by, LateRows, FreshLaid, StepLaid};
 ghost use Rattle.columns.specs.Order.{row_order};
+ghost use Rattle.demand.specs.Limits.{tasks_most};
+ghost use Rattle.demand.specs.Numbered.{refused};
 ghost use Rattle.demand.specs.declared.table.Kind.TheVariants.{Task, Handler};
 ghost use Rattle.machine.specs.Live.{due_of, period_of};
-ghost use Rattle.scheduler.specs.Promise.{FreshSays, StepSays};
 ghost use Rattle.scheduler.specs.Books.{busy_by};
 ghost use Rattle.scheduler.specs.Start.{fresh_of};
 ghost use Rattle.scheduler.specs.Steps.{step_of};
 
 use crate::numbers::{FIGURES, TASKS_MOST};
 use scheduler::sizes::{HANDLER_NUMBERS, PLACES, TASK_NUMBERS};
-use scheduler::{Answer, Fresh, Late, Ran, Run, Stepped};
+use scheduler::{Fresh, Ran, Run, Stepped};
 
-// A fresh run of a table in row order, or of one held by column.
-fn fresh_by(by_column: bool, tasks: &[u32], handlers: &[u32]) -> Fresh
-    ensures { FreshSays (order_by by_column Task tasks.now) (order_by by_column Handler handlers.now) result }
-{
-    if by_column {
-        run_by_column::fresh(tasks, handlers)
-    } else {
-        Run::fresh(tasks, handlers)
-    }
-}
-
-// That run, laid into the lent arrays.
+// A fresh run, laid into the lent arrays.
 fn lay_fresh(
-    by_column: bool,
-    tasks: &[u32],
-    handlers: &[u32],
+    fresh: &Fresh,
     t: &mut [u32; TASK_NUMBERS],
     h: &mut [u32; HANDLER_NUMBERS],
     next: &mut [u64; PLACES],
@@ -42,23 +30,39 @@ fn lay_fresh(
     owed: &mut [u64; PLACES],
     figures: &mut [u64; FIGURES],
 )
-    ensures { FreshLaid (order_by by_column Task tasks.now) (order_by by_column Handler handlers.now)
-        t.new h.new next.new due.new owed.new figures.new }
+    requires { late_number fresh.now.run.late ≤ tasks_most }
+    ensures { (t.new ≡ fresh.now.run.tasks) × (h.new ≡ fresh.now.run.handlers) × (next.new ≡ fresh.now.run.next)
+        × (due.new ≡ fresh.now.run.due) × (owed.new ≡ fresh.now.run.owed)
+        × (figures.new ≡ run_numbers fresh.now.run ++ refused_numbers (refused fresh.now.answer)) }
 {
-    let fresh = fresh_by(by_column, tasks, handlers);
-    let run = fresh.run;
-    let answer = fresh.answer;
-    let run_tasks = run.tasks;
-    let run_handlers = run.handlers;
-    let run_next = run.next;
-    let run_due = run.due;
-    let run_owed = run.owed;
-    *t = run_tasks;
-    *h = run_handlers;
-    *next = run_next;
-    *due = run_due;
-    *owed = run_owed;
-    *figures = numbers::run_figures(run, numbers::start_code(answer), Ran::Idle, Late::Nobody);
+    *t = fresh.run.tasks;
+    *h = fresh.run.handlers;
+    *next = fresh.run.next;
+    *due = fresh.run.due;
+    *owed = fresh.run.owed;
+    let code = numbers::start_code(fresh.answer);
+    *figures = numbers::run_figures(&fresh.run, code, Ran::Idle, None);
+}
+
+// A step, laid into the lent arrays. Beside a refusal stands the run that was given, so a refused one leaves them as they were.
+fn lay(
+    stepped: &Stepped,
+    next: &mut [u64; PLACES],
+    due: &mut [u64; TASKS_MOST],
+    owed: &mut [u64; PLACES],
+    figures: &mut [u64; FIGURES],
+)
+    requires { LateRows stepped.now }
+    ensures { (next.new ≡ stepped.now.run.next) × (due.new ≡ stepped.now.run.due) × (owed.new ≡ stepped.now.run.owed)
+        × (figures.new ≡ left_by figures.old stepped.now) }
+{
+    *next = stepped.run.next;
+    *due = stepped.run.due;
+    *owed = stepped.run.owed;
+    match stepped.answer {
+        Ok(ticked) => *figures = numbers::run_figures(&stepped.run, 0, ticked.ran, ticked.late),
+        Err(refusal) => *figures = numbers::refused_figures(figures, refusal.number()),
+    }
 }
 
 // A fresh run, laid into the lent arrays.
@@ -76,7 +80,7 @@ pub extern "C" fn harness_fresh(
     ensures { FreshLaid tasks.now handlers.now t.new h.new next.new
         due.new owed.new figures.new }
 {
-    lay_fresh(false, tasks, handlers, t, h, next, due, owed, figures);
+    lay_fresh(&Run::fresh(tasks, handlers), t, h, next, due, owed, figures);
 }
 
 // The same of a table held by column.
@@ -94,7 +98,8 @@ pub extern "C" fn harness_fresh_by_column(
     ensures { FreshLaid (row_order Task tasks.now) (row_order Handler handlers.now)
         t.new h.new next.new due.new owed.new figures.new }
 {
-    lay_fresh(true, tasks, handlers, t, h, next, due, owed, figures);
+    let fresh = run_by_column::fresh(tasks, handlers);
+    lay_fresh(&fresh, t, h, next, due, owed, figures);
 }
 
 // One step of the run in the lent arrays, whatever stands there. A refused one leaves all numbers of the run as they were.
@@ -112,7 +117,8 @@ pub extern "C" fn harness_step(
         figures.old) figures.old arrivals.now
         next.new due.new owed.new figures.new }
 {
-    lay(false, t, h, next, due, owed, figures, arrivals);
+    let run = numbers::run_in(t, h, next, due, owed, figures);
+    lay(&run.step(arrivals), next, due, owed, figures);
 }
 
 // The same by fixed priority.
@@ -130,57 +136,8 @@ pub extern "C" fn harness_step_by_priority(
         figures.old) figures.old arrivals.now
         next.new due.new owed.new figures.new }
 {
-    lay(true, t, h, next, due, owed, figures, arrivals);
-}
-
-// One step by either.
-fn stepped_by(ranked: bool, run: Run, arrivals: &[u32]) -> Stepped
-    ensures { StepSays (key_by ranked) run arrivals.now result }
-{
-    if ranked {
-        run.step_by_priority(arrivals)
-    } else {
-        run.step(arrivals)
-    }
-}
-
-// A step of the run in the lent arrays, laid there.
-fn lay(
-    ranked: bool,
-    t: &[u32; TASK_NUMBERS],
-    h: &[u32; HANDLER_NUMBERS],
-    next: &mut [u64; PLACES],
-    due: &mut [u64; TASKS_MOST],
-    owed: &mut [u64; PLACES],
-    figures: &mut [u64; FIGURES],
-    arrivals: &[u32],
-)
-    ensures { StepLaid (key_by ranked) (run_in t.now h.now next.old due.old
-        owed.old figures.old) figures.old arrivals.now
-        next.new due.new owed.new figures.new }
-{
     let run = numbers::run_in(t, h, next, due, owed, figures);
-    let stepped = stepped_by(ranked, run, arrivals);
-    let after = stepped.run;
-    let answer = stepped.answer;
-    match answer {
-        Answer::Ticked {
-            ran,
-            late: now_late,
-        } => {
-            let new_next = after.next;
-            let new_due = after.due;
-            let new_owed = after.owed;
-            *next = new_next;
-            *due = new_due;
-            *owed = new_owed;
-            *figures = numbers::run_figures(after, 0, ran, now_late);
-        }
-        Answer::Refused { number } => {
-            let old = *figures;
-            *figures = numbers::refused_figures(&old, number);
-        }
-    }
+    lay(&run.step_by_priority(arrivals), next, due, owed, figures);
 }
 
 // A fresh run's first step, then `ticks` more with the same list each: how many of them were not idle.
@@ -195,18 +152,12 @@ pub extern "C" fn harness_ticks(
     ensures { result ≡ busy_by due_of (replicate ticks rest.now)
         (step_of (fresh_of tasks.now handlers.now).run first.now).run }
 {
-    let fresh = Run::fresh(tasks, handlers);
-    let start = fresh.run;
-    let begun = start.step(first);
-    let mut run = begun.run;
-    let mut count: u64 = 0;
-    let mut i: u32 = 0;
-    while i < ticks {
+    let mut run = Run::fresh(tasks, handlers).run.step(first).run;
+    let mut count = 0;
+    for i in 0..ticks {
         let stepped = run.step(rest);
-        let answer = stepped.answer;
         run = stepped.run;
-        count += numbers::busy(answer);
-        i += 1;
+        count += numbers::busy(stepped.answer);
     }
     count
 }

@@ -1,12 +1,14 @@
 // A run and an answer as numbers.
 ghost use Rattle.std.specs.Prelude.{◌≡◌, ◌≤◌};
 ghost use Rattle.demand.specs.Limits.{tasks_most};
+ghost use Rattle.demand.specs.Numbered.{refused};
 ghost use Rattle.harness.specs.Numbers.{late_of, late_number, over_of, over_number, ran_number, layout, refused_layout, run_in};
 ghost use Rattle.scheduler.specs.Books.{busy};
-ghost use Rattle.scheduler.specs.Promise.{start_figures, row_ran};
+ghost use Rattle.scheduler.specs.Promise.{row_ran};
 
+use demand::refusal::Refusal;
 use scheduler::sizes::{HANDLER_NUMBERS, PLACES, TASK_NUMBERS};
-use scheduler::{Answer, Late, Ran, Run, Start};
+use scheduler::{Ran, Run, Ticked};
 
 // The tasks that a run has room for.
 pub const TASKS_MOST: usize = Run::TASKS_MOST;
@@ -14,27 +16,25 @@ pub const TASKS_MOST: usize = Run::TASKS_MOST;
 // How many figures a run and an answer have.
 pub const FIGURES: usize = 9;
 
-// Who is late, from the row and 1, or 0 for nobody.
-pub fn late_of(number: u64) -> Late
+// The late row, from it and 1, or 0 for nobody.
+pub fn late_of(number: u64) -> Option<usize>
     ensures { result ≡ late_of number }
 {
     if number == 0 {
-        Late::Nobody
+        None
     } else {
-        Late::Task {
-            row: (number - 1) as usize,
-        }
+        Some((number - 1) as usize)
     }
 }
 
 // The row and 1 of a task, 0 for nobody.
-pub fn late_number(late: Late) -> u64
+pub fn late_number(late: Option<usize>) -> u64
     requires { late_number late ≤ tasks_most }
     ensures { result ≡ late_number late }
 {
     match late {
-        Late::Nobody => 0,
-        Late::Task { row } => row as u64 + 1,
+        None => 0,
+        Some(row) => row as u64 + 1,
     }
 }
 
@@ -47,7 +47,7 @@ pub fn over_of(number: u64) -> bool
 pub fn over_number(over: bool) -> u64
     ensures { result ≡ over_number over }
 {
-    if over { 1 } else { 0 }
+    u64::from(over)
 }
 
 // Who ran: 0 nobody, 1 a handler, 2 a task.
@@ -55,8 +55,8 @@ pub fn ran_number(ran: Ran) -> u64
     ensures { result ≡ ran_number ran }
 {
     match ran {
-        Ran::Handler { row: _ } => 1,
-        Ran::Task { row: _ } => 2,
+        Ran::Handler { .. } => 1,
+        Ran::Task { .. } => 2,
         Ran::Idle => 0,
     }
 }
@@ -65,32 +65,27 @@ pub fn row_number(ran: Ran) -> u64
     ensures { result ≡ row_ran ran }
 {
     match ran {
-        Ran::Handler { row } => row as u64,
-        Ran::Task { row } => row as u64,
+        Ran::Handler { row } | Ran::Task { row } => row as u64,
         Ran::Idle => 0,
     }
 }
 
-pub fn start_code(start: Start) -> u64
-    ensures { result ≡ start_figures start }
+pub fn start_code(answer: Result<(), Refusal>) -> u64
+    ensures { result ≡ refused answer }
 {
-    match start {
-        Start::Ready => 0,
-        Start::Refused { number } => number as u64,
+    match answer {
+        Ok(()) => 0,
+        Err(refusal) => u64::from(refusal.number()),
     }
 }
 
 // 1 for a tick that was not idle.
-pub fn busy(answer: Answer) -> u64
+pub fn busy(answer: Result<Ticked, Refusal>) -> u64
     ensures { result ≡ busy answer }
 {
     match answer {
-        Answer::Ticked { ran, late: _ } => match ran {
-            Ran::Handler { row: _ } => 1,
-            Ran::Task { row: _ } => 1,
-            Ran::Idle => 0,
-        },
-        Answer::Refused { number: _ } => 0,
+        Ok(ticked) => u64::from(ticked.ran != Ran::Idle),
+        Err(_) => 0,
     }
 }
 
@@ -106,23 +101,17 @@ pub fn run_in(
     ensures { result ≡ run_in t.now h.now next.now due.now owed.now
         figures.now }
 {
-    let tasks = *t;
-    let handlers = *h;
-    let own_next = *next;
-    let own_due = *due;
-    let own_owed = *owed;
-    let late = late_of(figures[4]);
     Run {
-        tasks,
-        handlers,
+        tasks: *t,
+        handlers: *h,
         task_count: figures[0] as usize,
         handler_count: figures[1] as usize,
         clock: figures[2],
-        next: own_next,
-        due: own_due,
-        owed: own_owed,
+        next: *next,
+        due: *due,
+        owed: *owed,
         over: over_of(figures[3]),
-        late,
+        late: late_of(figures[4]),
     }
 }
 
@@ -136,7 +125,7 @@ pub fn refused_figures(old: &[u64; FIGURES], number: u32) -> [u64; FIGURES]
         old[2],
         old[3],
         old[4],
-        number as u64,
+        u64::from(number),
         0,
         0,
         0,
@@ -144,17 +133,16 @@ pub fn refused_figures(old: &[u64; FIGURES], number: u32) -> [u64; FIGURES]
 }
 
 // The figures of a run, and of the answer beside it.
-pub fn run_figures(run: Run, code: u64, ran: Ran, late: Late) -> [u64; FIGURES]
-    requires { (late_number run.late ≤ tasks_most) × (late_number late ≤ tasks_most) }
-    ensures { result ≡ layout run code ran late }
+pub fn run_figures(run: &Run, code: u64, ran: Ran, late: Option<usize>) -> [u64; FIGURES]
+    requires { (late_number run.now.late ≤ tasks_most) × (late_number late ≤ tasks_most) }
+    ensures { result ≡ layout run.now code ran late }
 {
-    let own = run.late;
     [
         run.task_count as u64,
         run.handler_count as u64,
         run.clock,
         over_number(run.over),
-        late_number(own),
+        late_number(run.late),
         code,
         ran_number(ran),
         row_number(ran),

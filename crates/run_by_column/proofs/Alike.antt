@@ -5,13 +5,14 @@ use native.Mathlib.Omega.{arith}
 use borrow.Author.Tests.{ne_eqb}
 use Prim.Native.Nat.{ℕ, ◌<◌}
 use Rattle.columns.specs.Held.{Alike}
+use Rattle.std.specs.Prelude.{Err}
+use Rattle.demand.specs.Numbered.{refusal_at}
 use Rattle.demand.specs.Refusals.{table_refusal}
 use Rattle.scheduler.specs.Promise.{FreshSays}
 use Rattle.scheduler.specs.Start.{fresh_of, no_run}
 use Rattle.scheduler.specs.declared.Fresh.{Fresh}
-use Rattle.scheduler.specs.declared.Start.TheVariants.{Refused}
 
-refused-run : (t h : List ℕ) → 0 < table_refusal t h → fresh_of t h ≡ record { run = no_run; answer = Refused (table_refusal t h) }
+refused-run : (t h : List ℕ) → 0 < table_refusal t h → fresh_of t h ≡ record { run = no_run; answer = Err (refusal_at (table_refusal t h)) }
 unfolding fresh_of
 refused-run t h some = rw (ne_eqb (table_refusal t h) 0 (λ z. omega arith))
 
@@ -21,7 +22,7 @@ fresh-alike t h t' h' alike a says =
     record {
       answer =
           says.answer ∙ refused-run t h alike.some
-          ∙ ap (λ (k : ℕ). record { run = no_run; answer = Refused k }) alike.same
+          ∙ ap (λ (k : ℕ). record { run = no_run; answer = Err (refusal_at k) }) alike.same
           ∙ sym (refused-run t' h' there);
       figured = says.figured ∙ alike.same;
       zeros = λ some. says.zeros alike.some;

@@ -6,17 +6,18 @@ use native.Mathlib.Nat.{eq-zero-or-pos}
 use native.Mathlib.Omega.{arith}
 use borrow.Author.Tests.{eq-eqb, ne_eqb}
 use Prim.Native.Nat.{ℕ, ◌<◌}
+use Rattle.demand.specs.Numbered.{refusal_at, refused}
 use Rattle.demand.specs.Refusals.{table_refusal}
 use Rattle.machine.specs.Live.{Live}
-use Rattle.scheduler.specs.Promise.{start_figures, figures, figures_by, FreshSays, StepSays, FreshUnique, StepUnique}
+use Rattle.scheduler.specs.Promise.{figures, figures_by, FreshSays, StepSays, FreshUnique, StepUnique}
 use Rattle.scheduler.specs.Start.{fresh_of}
 use Rattle.scheduler.specs.Steps.{step_refusal, step_by}
 use Rattle.scheduler.specs.Tick.{ticked_by}
 use Rattle.scheduler.specs.declared.Fresh.{Fresh}
 use Rattle.scheduler.specs.declared.Run.{Run}
 use Rattle.scheduler.specs.declared.Stepped.{Stepped}
-use Rattle.scheduler.proofs.Steps.Answers.{step-ticks, step-refused}
-use Rattle.scheduler.proofs.Steps.Tables.{fresh-ready, fresh-refused}
+use Rattle.scheduler.proofs.Steps.Answers.{step-ticks, step-refused, step-known}
+use Rattle.scheduler.proofs.Steps.Tables.{fresh-ready, fresh-refused, table-known}
 
 pub fresh-says : (t h : List ℕ) (a : Fresh) → a ≡ fresh_of t h → FreshSays t h a
 fresh-says t h a e = go (eq-zero-or-pos (table_refusal t h))
@@ -24,14 +25,15 @@ fresh-says t h a e = go (eq-zero-or-pos (table_refusal t h))
     go : (table_refusal t h ≡ 0) ⊎ (0 < table_refusal t h) → FreshSays t h a
     go (inl none) = record {
       answer = e;
-      figured = ap (λ (x : Fresh). start_figures x.answer) (e ∙ fresh-ready t h none) ∙ (unfold start_figures in sym none);
+      figured = ap (λ (x : Fresh). refused x.answer) (e ∙ fresh-ready t h none) ∙ sym none;
       zeros = λ some. absurd (omega arith);
     }
     go (inr some) =
-        let is = e ∙ fresh-refused t h (table_refusal t h) refl (λ none. omega arith) in
+        let known = table-known t h (λ none. omega arith) in
+        let is = e ∙ fresh-refused t h (refusal_at (table_refusal t h)) known in
         record {
           answer = e;
-          figured = ap (λ (x : Fresh). start_figures x.answer) is ∙ (unfold start_figures in refl);
+          figured = ap (λ (x : Fresh). refused x.answer) is ∙ known;
           zeros = λ _. ap (λ (x : Fresh). x.run) is;
         }
 
@@ -46,7 +48,7 @@ module _ (key : Live → ℕ) (r : Run) (ws : List ℕ) where
   unfolding figures figures_by
   refused-figured some =
       ap (λ (x : Stepped). figures x.answer) (step-refused key r ws (step_refusal r ws) refl (λ none. omega arith))
-      ∙ rw (ne_eqb (step_refusal r ws) 0 (λ none. omega arith)) refl
+      ∙ rw (ne_eqb (step_refusal r ws) 0 (λ none. omega arith), step-known r ws (λ none. omega arith)) refl
 
   pub step-says : (a : Stepped) → a ≡ step_by key r ws → StepSays key r ws a
   step-says a e = go (eq-zero-or-pos (step_refusal r ws))

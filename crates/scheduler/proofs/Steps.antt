@@ -1,7 +1,6 @@
 -- Runs and steps by place: the laws that the code meets.
 pub mod Answers
 pub mod Clauses
-pub mod Copies
 pub mod Earliest
 pub mod Goes
 pub mod OnePass
@@ -9,4 +8,5 @@ pub mod RowPlaces
 pub mod Scan
 pub mod Tables
 pub mod Keys
+pub mod Known
 pub mod Ticks

@@ -5,36 +5,35 @@
 --   busy_by key offers r      == the ticks of those steps that were not idle
 --   owed_in r                 == the work that its rows are still owed
 --   Balance                  the books balance, over every list of offers, refused ones among them
-use Rattle.std.specs.Prelude.{List, [], ◌∷◌, ◌≡◌, ℕ, ◌+◌, take}
+use Rattle.std.specs.Prelude.{List, [], ◌∷◌, ◌≡◌, ℕ, ◌+◌, Result, Ok, Err, take}
+use Rattle.demand.specs.declared.refusal.Refusal.{Refusal}
 use Rattle.machine.specs.Live.{Live}
 use Rattle.scheduler.specs.Reached.{offered_by}
 use Rattle.scheduler.specs.Runs.{row_count}
 use Rattle.scheduler.specs.Start.{fresh_of}
 use Rattle.scheduler.specs.Steps.{step_by}
-use Rattle.scheduler.specs.declared.Answer.{Answer}
-use Rattle.scheduler.specs.declared.Answer.TheVariants.{Ticked, Refused}
 use Rattle.scheduler.specs.declared.Ran.{Ran}
 use Rattle.scheduler.specs.declared.Ran.TheVariants.{Handler, Task, Idle}
 use Rattle.scheduler.specs.declared.Run.{Run}
-use Rattle.scheduler.specs.declared.Start.TheVariants.{Ready}
+use Rattle.scheduler.specs.declared.Ticked.{Ticked}
 
 unfoldable pub sum : List ℕ → ℕ
 sum [] = 0
 sum (x ∷ xs) = x + sum xs
 
 -- Work ws counts where the step is accepted.
-abbrev pub bringing : Answer → List ℕ → ℕ
-bringing (Ticked ran late) ws = sum ws
-bringing (Refused k) ws = 0
+abbrev pub bringing : Result Ticked Refusal → List ℕ → ℕ
+bringing (Ok t) ws = sum ws
+bringing (Err e) ws = 0
 
 abbrev pub ticking : Ran → ℕ
 ticking (Handler i) = 1
 ticking (Task i) = 1
 ticking Idle = 0
 
-abbrev pub busy : Answer → ℕ
-busy (Ticked ran late) = ticking ran
-busy (Refused k) = 0
+abbrev pub busy : Result Ticked Refusal → ℕ
+busy (Ok t) = ticking t.ran
+busy (Err e) = 0
 
 unfoldable pub brought_by : (Live → ℕ) → List (List ℕ) → Run → ℕ
 brought_by key [] r = 0
@@ -49,5 +48,5 @@ owed_in r = sum (take (row_count r) r.owed)
 
 abbrev pub Balance : Type 0
 Balance =
-    (key : Live → ℕ) (t h : List ℕ) → (fresh_of t h).answer ≡ Ready → (offers : List (List ℕ))
+    (key : Live → ℕ) (t h : List ℕ) → (fresh_of t h).answer ≡ Ok tt → (offers : List (List ℕ))
     → brought_by key offers (fresh_of t h).run ≡ busy_by key offers (fresh_of t h).run + owed_in (offered_by key offers (fresh_of t h).run)

@@ -13,7 +13,7 @@
 --   late_named r        == it is not over and names a late row
 --   out_of_bounds r      == one of them
 --   InBounds r         none of them
-use Rattle.std.specs.Prelude.{Bool, false, not, ◌&&◌, ◌||◌, List, ◌≡◌, ℕ, ◌+◌, ◌*◌, ltb, leb, eqb, get_or, drop}
+use Rattle.std.specs.Prelude.{Bool, false, not, ◌&&◌, ◌||◌, List, Option, None, Some, ◌≡◌, ℕ, ◌+◌, ◌*◌, ltb, leb, eqb, get_or, drop}
 use Rattle.demand.specs.Limits.{tasks_most, handlers_most, ticks_most}
 use Rattle.demand.specs.Refusals.{row_outside, deadline_outside}
 use Rattle.demand.specs.Rows.{Row}
@@ -21,8 +21,6 @@ use Rattle.demand.specs.Tests.{pick}
 use Rattle.scheduler.specs.Runs.{row_in, row_count}
 use Rattle.scheduler.specs.Scans.{at, any, used}
 use Rattle.scheduler.specs.Tick.{late_row, is_task}
-use Rattle.scheduler.specs.declared.Late.{Late}
-use Rattle.scheduler.specs.declared.Late.TheVariants as late
 use Rattle.scheduler.specs.declared.Run.{Run}
 
 -- 1 cannot be met, since a run counts rows and not numbers. 2: no task, over 64 tasks or over 16 handlers.
@@ -96,10 +94,10 @@ abbrev pub deadline_missed : Run → Bool
 deadline_missed r = any (missed r.over r.clock (at r.due) r.owed) r.task_count
 
 -- The late row is named, and is that of the first late task.
-abbrev pub names : Late → Late → Bool
-names late.Nobody first = false
-names (late.Task i) late.Nobody = false
-names (late.Task i) (late.Task j) = eqb i j
+abbrev pub names : Option ℕ → Option ℕ → Bool
+names None first = false
+names (Some i) None = false
+names (Some i) (Some j) = eqb i j
 
 abbrev pub late_wrong : Run → Bool
 late_wrong r = r.over && not (names r.late (late_row r.clock (at r.due) r.owed r.task_count))

@@ -7,14 +7,13 @@
 --   task_rows r, handler_rows r == the rows of its table
 --   task_numbers, handler_numbers, row_places == the lengths of its arrays
 --   Shaped r            its arrays have their lengths, as those of every run that a program holds
-use Rattle.std.specs.Prelude.{Bool, List, ◌≡◌, ℕ, ◌+◌, ◌-◌, ◌*◌, ltb, length, take}
+use Rattle.std.specs.Prelude.{Bool, List, Option, ◌≡◌, ℕ, ◌+◌, ◌-◌, ◌*◌, ltb, length, take}
 use Rattle.demand.specs.Limits.{tasks_most, handlers_most}
 use Rattle.demand.specs.Rows.{Row, tasks_of, handlers_of, row_at}
 use Rattle.demand.specs.Tests.{pick}
-use Rattle.scheduler.specs.declared.Late.{Late}
 use Rattle.scheduler.specs.declared.Run.{Run}
 
-abbrev pub run_of : List ℕ → List ℕ → ℕ → ℕ → ℕ → List ℕ → List ℕ → List ℕ → Bool → Late → Run
+abbrev pub run_of : List ℕ → List ℕ → ℕ → ℕ → ℕ → List ℕ → List ℕ → List ℕ → Bool → Option ℕ → Run
 run_of t h n m clock next due owed over late = record {
   tasks = t;
   handlers = h;

@@ -4,7 +4,8 @@
 --   first_of p here n none  == here k, of the first place k below n of which p holds; none where there is no such place
 --   filled f n xs          == xs with f 0, .., f (n - 1) in its first n places
 --   used xs                == some number of xs isn't 0
-use Rattle.std.specs.Prelude.{Bool, false, not, ◌||◌, List, [], ◌∷◌, ℕ, zero, suc, eqb, get_or, set}
+use Rattle.std.specs.List.{list_any}
+use Rattle.std.specs.Prelude.{Bool, false, not, ◌||◌, List, ℕ, zero, suc, eqb, get_or, set}
 use Rattle.demand.specs.Tests.{pick}
 
 abbrev pub at : List ℕ → ℕ → ℕ
@@ -23,5 +24,4 @@ filled f zero xs = xs
 filled f (suc n) xs = set (filled f n xs) n (f n)
 
 unfoldable pub used : List ℕ → Bool
-used [] = false
-used (x ∷ xs) = not (eqb x 0) || used xs
+used = list_any (λ x. not (eqb x 0))

@@ -4,16 +4,15 @@
 --   fresh_run t h    == the fresh run of a table: clock 0, all arrivals, deadlines and work 0, not over
 --   no_run           == a run of zeros, beside a refusal
 --   fresh_of t h     == the answer
-use Rattle.std.specs.Prelude.{false, List, ◌++◌, ℕ, ◌-◌, eqb, length, replicate}
+use Rattle.std.specs.Prelude.{false, List, None, Ok, Err, ◌++◌, ℕ, ◌-◌, eqb, length, replicate}
 use Rattle.demand.specs.Limits.{tasks_most}
+use Rattle.demand.specs.Numbered.{refusal_at}
 use Rattle.demand.specs.Refusals.{table_refusal}
 use Rattle.demand.specs.Rows.{tasks_of, handlers_of}
 use Rattle.demand.specs.Tests.{pick}
 use Rattle.scheduler.specs.Runs.{run_of, task_numbers, handler_numbers, row_places}
 use Rattle.scheduler.specs.declared.Fresh.{Fresh}
-use Rattle.scheduler.specs.declared.Late.TheVariants.{Nobody}
 use Rattle.scheduler.specs.declared.Run.{Run}
-use Rattle.scheduler.specs.declared.Start.TheVariants.{Ready, Refused}
 
 unfoldable pub padded : ℕ → List ℕ → List ℕ
 padded n xs = xs ++ replicate (n - length xs) 0
@@ -24,13 +23,13 @@ zeros n = replicate n 0
 unfoldable pub fresh_run : List ℕ → List ℕ → Run
 fresh_run t h =
     run_of (padded task_numbers t) (padded handler_numbers h) (length (tasks_of t)) (length (handlers_of h))
-    0 (zeros row_places) (zeros tasks_most) (zeros row_places) false Nobody
+    0 (zeros row_places) (zeros tasks_most) (zeros row_places) false None
 
 unfoldable pub no_run : Run
-no_run = run_of (zeros task_numbers) (zeros handler_numbers) 0 0 0 (zeros row_places) (zeros tasks_most) (zeros row_places) false Nobody
+no_run = run_of (zeros task_numbers) (zeros handler_numbers) 0 0 0 (zeros row_places) (zeros tasks_most) (zeros row_places) false None
 
 unfoldable pub fresh_of : List ℕ → List ℕ → Fresh
 fresh_of t h =
     pick (eqb (table_refusal t h) 0)
-    (record { run = fresh_run t h; answer = Ready })
-    (record { run = no_run; answer = Refused (table_refusal t h) })
+    (record { run = fresh_run t h; answer = Ok tt })
+    (record { run = no_run; answer = Err (refusal_at (table_refusal t h)) })

@@ -1,11 +1,12 @@
 -- What `step` answers (01, "One tick of the scheduler" and "Numbered refusals").
 --   step_tests r ws       == the tests of a step, each with its number: 6 to 11
 --   step_refusal r ws     == the lowest refusal of 6 to 11 that applies to a step of run r with arrivals ws, 0 for none
---   refused r k          == the answer of refusal k: its number, and the run that was given
+--   refused r k          == the answer of the refusal whose number is k: it, and the run that was given
 --   step_by key r ws      == the answer, where of the tasks owed work the one with the smallest key runs
 --   step_of r ws          == the answer, where the earliest deadline runs
-use Rattle.std.specs.Prelude.{Bool, not, ◌&&◌, List, [], ◌∷◌, ℕ, ltb, eqb, length, get_or}
+use Rattle.std.specs.Prelude.{Bool, not, ◌&&◌, List, [], ◌∷◌, ℕ, Err, ltb, eqb, length, get_or}
 use Rattle.demand.specs.Limits.{ticks_most}
+use Rattle.demand.specs.Numbered.{refusal_at}
 use Rattle.demand.specs.Rows.{Row}
 use Rattle.demand.specs.Tests.{pick, first_refusal}
 use Rattle.scheduler.specs.Bounds.{out_of_bounds}
@@ -13,7 +14,6 @@ use Rattle.machine.specs.Live.{Live, due_of}
 use Rattle.scheduler.specs.Runs.{row_in, row_count}
 use Rattle.scheduler.specs.Scans.{any}
 use Rattle.scheduler.specs.Tick.{ticked_by}
-use Rattle.scheduler.specs.declared.Answer.TheVariants.{Refused}
 use Rattle.scheduler.specs.declared.Run.{Run}
 use Rattle.scheduler.specs.declared.Stepped.{Stepped}
 
@@ -40,7 +40,7 @@ unfoldable pub step_refusal : Run → List ℕ → ℕ
 step_refusal r ws = first_refusal (step_tests r ws)
 
 abbrev pub refused : Run → ℕ → Stepped
-refused r k = record { run = r; answer = Refused k }
+refused r k = record { run = r; answer = Err (refusal_at k) }
 
 unfoldable pub step_by : (Live → ℕ) → Run → List ℕ → Stepped
 step_by key r ws = pick (eqb (step_refusal r ws) 0) (ticked_by key r ws) (refused r (step_refusal r ws))

@@ -4,7 +4,9 @@
 --   next_arrived, due_arrived, owed_arrived   == all rows' next arrivals, all tasks' deadlines and all rows' work owed after the arrivals ws
 --   GoesTo key owed n m ran   the tick goes to ran, of n tasks and m handlers that are owed `owed`: 01's rule, word for word
 --   goes_to key owed n m       == the one to whom it goes
+--   smaller best key          == a key is smaller than that of the task found, if one is
 --   better, earliest          == the task with the smallest key of those owed work, the lowest row of several, found row by row
+--   to_task best              == the one to whom the tick goes where no handler is owed work
 --   paid owed n ran           == work owed after the tick of ran
 --   is_late, late_row           == a task is owed work at its deadline; the first such row
 --   is_task late               == a row is named
@@ -13,15 +15,12 @@
 --   next_with, due_with, owed_with r ws   == what the rows of run r have after the arrivals ws
 --   key_in, ran_by, late_by key r ws      == then the key of each task, who runs, and who is late at the end of the tick
 --   ticked_by key r ws         == all of it, with the arrivals ws, where of the tasks owed work the one with the smallest key runs
-use Rattle.std.specs.Prelude.{Bool, true, false, not, ◌&&◌, ◌||◌, List, ◌≡◌, ℕ, zero, suc, ◌+◌, ◌-◌, ◌≤◌, ◌<◌, ltb, eqb, get_or, set}
+use Rattle.std.specs.Prelude.{Bool, true, ◌&&◌, List, Option, None, Some, is_some, Ok, ◌≡◌, ℕ, zero, suc, ◌+◌, ◌-◌, ◌≤◌, ◌<◌, ltb, eqb, get_or, set}
 use Rattle.demand.specs.Rows.{Row}
 use Rattle.demand.specs.Tests.{pick}
 use Rattle.machine.specs.Live.{Live}
 use Rattle.scheduler.specs.Runs.{run_of, row_in, row_count}
 use Rattle.scheduler.specs.Scans.{at, first_of, filled}
-use Rattle.scheduler.specs.declared.Answer.TheVariants.{Ticked}
-use Rattle.scheduler.specs.declared.Late.{Late}
-use Rattle.scheduler.specs.declared.Late.TheVariants as late
 use Rattle.scheduler.specs.declared.Ran.{Ran}
 use Rattle.scheduler.specs.declared.Ran.TheVariants as ran
 use Rattle.scheduler.specs.declared.Run.{Run}
@@ -76,16 +75,21 @@ GoesTo key owed n m (ran.Handler i) = ToHandler owed n m i
 GoesTo key owed n m (ran.Task i) = ToTask key owed n m i
 GoesTo key owed n m ran.Idle = ToNobody owed n m
 
--- Row k takes the place of the best so far where it is owed work and that has no smaller key.
-abbrev pub better : Best → ℕ → ℕ → ℕ → Best
-better best k owed key = pick (ltb 0 owed && (not best.found || ltb key best.key)) (record { found = true; row = k; key = key }) best
+abbrev pub smaller : Option Best → ℕ → Bool
+smaller None key = true
+smaller (Some best) key = ltb key best.key
 
-unfoldable pub earliest : (ℕ → ℕ) → List ℕ → ℕ → Best
-earliest key owed zero = record { found = false; row = 0; key = 0 }
+-- Row k takes the place of the best so far where it is owed work and that has no smaller key.
+abbrev pub better : Option Best → ℕ → ℕ → ℕ → Option Best
+better best k owed key = pick (ltb 0 owed && smaller best key) (Some (record { row = k; key = key })) best
+
+unfoldable pub earliest : (ℕ → ℕ) → List ℕ → ℕ → Option Best
+earliest key owed zero = None
 earliest key owed (suc n) = better (earliest key owed n) n (get_or owed n 0) (key n)
 
-abbrev pub to_task : Best → Ran
-to_task best = pick best.found (ran.Task best.row) ran.Idle
+abbrev pub to_task : Option Best → Ran
+to_task None = ran.Idle
+to_task (Some best) = ran.Task best.row
 
 abbrev pub owed_at : List ℕ → ℕ → ℕ → Bool
 owed_at owed n i = ltb 0 (get_or owed (n + i) 0)
@@ -106,22 +110,21 @@ paid owed n ran.Idle = owed
 abbrev pub is_late : ℕ → (ℕ → ℕ) → List ℕ → ℕ → Bool
 is_late clock due owed k = ltb 0 (get_or owed k 0) && eqb (due k) clock
 
-unfoldable pub late_row : ℕ → (ℕ → ℕ) → List ℕ → ℕ → Late
-late_row clock due owed n = first_of (is_late clock due owed) late.Task n late.Nobody
+unfoldable pub late_row : ℕ → (ℕ → ℕ) → List ℕ → ℕ → Option ℕ
+late_row clock due owed n = first_of (is_late clock due owed) Some n None
 
-abbrev pub is_task : Late → Bool
-is_task late.Nobody = false
-is_task (late.Task i) = true
+abbrev pub is_task : Option ℕ → Bool
+is_task = is_some
 
 -- ---- the whole tick: the clock moves on by 1 between the two
 
-abbrev pub closed : Run → List ℕ → List ℕ → List ℕ → Ran → Bool → Late → Stepped
+abbrev pub closed : Run → List ℕ → List ℕ → List ℕ → Ran → Bool → Option ℕ → Stepped
 closed r next due owed ran over late = record {
   run = run_of r.tasks r.handlers r.task_count r.handler_count (r.clock + 1) next due owed over late;
-  answer = Ticked ran late;
+  answer = Ok (record { ran = ran; late = late });
 }
 
-abbrev pub ended : Run → List ℕ → List ℕ → List ℕ → Ran → Late → Stepped
+abbrev pub ended : Run → List ℕ → List ℕ → List ℕ → Ran → Option ℕ → Stepped
 ended r next due owed ran late = closed r next due owed ran (is_task late) late
 
 -- What is left of the tick once it is known to whom it goes.
@@ -155,7 +158,7 @@ abbrev pub ran_by : (Live → ℕ) → Run → List ℕ → Ran
 ran_by key r ws = goes_to (key_in key r ws) (owed_with r ws) r.task_count r.handler_count
 
 -- The late row at the tick's end.
-abbrev pub late_by : (Live → ℕ) → Run → List ℕ → Late
+abbrev pub late_by : (Live → ℕ) → Run → List ℕ → Option ℕ
 late_by key r ws =
     late_row (r.clock + 1) (at (due_with r ws)) (paid (owed_with r ws) r.task_count (ran_by key r ws)) r.task_count
 

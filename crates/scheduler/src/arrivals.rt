@@ -3,78 +3,61 @@ ghost use Rattle.std.specs.Prelude.{◌≡◌, ◌+◌, ◌≤◌, length};
 ghost use Rattle.demand.specs.Limits.{figure_most, tasks_most, ticks_most};
 ghost use Rattle.scheduler.specs.Inside.OnePass.{heavy_task, heavy_handler};
 ghost use Rattle.scheduler.specs.Inside.Counted.{Fitting, TableFair, OwedInWord};
-ghost use Rattle.scheduler.specs.Runs.{row_places, row_on};
+ghost use Rattle.scheduler.specs.Runs.{row_places, row_in, row_count};
 ghost use Rattle.scheduler.specs.Scans.{any};
 ghost use Rattle.scheduler.specs.Steps.{early, heavy};
 ghost use Rattle.scheduler.specs.Tick.{ahead, next_arrived, due_arrived, owed_arrived};
 
-use crate::rows;
-use crate::sizes::{HANDLER_NUMBERS, PLACES, TASK_NUMBERS};
-use demand::table;
-use demand::table::{Kind, TASKS_MOST};
+use crate::sizes::PLACES;
+use crate::{Run, rows};
+use demand::table::TASKS_MOST;
 
 // Does an arrival come before its row's next legal tick?
-pub fn some_early(next: &[u64; PLACES], arrivals: &[u32], clock: u64) -> bool
+pub fn some_early(run: &Run, arrivals: &[u32]) -> bool
     requires { length arrivals.now ≤ row_places }
-    ensures { result ≡ any (early clock next.now arrivals.now) (length arrivals.now) }
+    ensures { result ≡ any (early run.now.clock run.now.next arrivals.now) (length arrivals.now) }
 {
     let mut bad = false;
-    let mut k = 0;
-    while k < arrivals.len() {
-        let n = next[k];
-        bad = bad | ((arrivals[k] != 0) & (clock < n));
-        k += 1;
+    for (k, w) in arrivals.iter().enumerate() {
+        bad |= (*w != 0) & (run.clock < run.next[k]);
     }
     bad
 }
 
-// Does an arrival of one of n tasks bring more than its cost?
-fn tasks_heavy(tasks: &[u32; TASK_NUMBERS], n: usize, arrivals: &[u32]) -> bool
-    requires { (n ≤ tasks_most) × (n ≤ length arrivals.now) }
-    ensures { result ≡ any (heavy_task tasks.now arrivals.now) n }
+// Does an arrival of a task bring more than its cost?
+fn tasks_heavy(run: &Run, arrivals: &[u32]) -> bool
+    requires { (run.now.task_count ≤ tasks_most) × (run.now.task_count ≤ length arrivals.now) }
+    ensures { result ≡ any (heavy_task run.now.tasks arrivals.now) run.now.task_count }
 {
     let mut bad = false;
-    let mut k = 0;
-    while k < n {
-        let row = rows::row_of(Kind::Task, tasks, k);
-        let w = table::wide(arrivals[k]);
-        bad = bad | (row.cost < w);
-        k += 1;
+    for k in 0..run.task_count {
+        let row = rows::task(run, k);
+        bad |= row.cost < u64::from(arrivals[k]);
     }
     bad
 }
 
-// Does one of m handlers behind n tasks?
-fn handlers_heavy(handlers: &[u32; HANDLER_NUMBERS], n: usize, m: usize, arrivals: &[u32]) -> bool
-    requires { Fitting n m × (length arrivals.now ≡ n + m) }
-    ensures { result ≡ any (heavy_handler handlers.now arrivals.now n) m }
+// Does one of a handler?
+fn handlers_heavy(run: &Run, arrivals: &[u32]) -> bool
+    requires { Fitting run.now.task_count run.now.handler_count × (length arrivals.now ≡ row_count run.now) }
+    ensures { result ≡ any (heavy_handler run.now.handlers arrivals.now run.now.task_count) run.now.handler_count }
 {
+    let n = run.task_count;
     let mut bad = false;
-    let mut i = 0;
-    while i < m {
-        let row = rows::row_of(Kind::Handler, handlers, i);
-        let k = n + i;
-        let w = table::wide(arrivals[k]);
-        bad = bad | (row.cost < w);
-        i += 1;
+    for i in 0..run.handler_count {
+        let row = rows::handler(run, i);
+        bad |= row.cost < u64::from(arrivals[n + i]);
     }
     bad
 }
 
 // Does an arrival bring more than its row's cost?
-pub fn some_heavy(
-    tasks: &[u32; TASK_NUMBERS],
-    handlers: &[u32; HANDLER_NUMBERS],
-    n: usize,
-    m: usize,
-    arrivals: &[u32],
-) -> bool
-    requires { Fitting n m × (length arrivals.now ≡ n + m) }
-    ensures { result ≡ any (heavy (row_on tasks.now handlers.now n) arrivals.now)
-        (length arrivals.now) }
+pub fn some_heavy(run: &Run, arrivals: &[u32]) -> bool
+    requires { Fitting run.now.task_count run.now.handler_count × (length arrivals.now ≡ row_count run.now) }
+    ensures { result ≡ any (heavy (row_in run.now) arrivals.now) (length arrivals.now) }
 {
-    let of_tasks = tasks_heavy(tasks, n, arrivals);
-    let of_handlers = handlers_heavy(handlers, n, m, arrivals);
+    let of_tasks = tasks_heavy(run, arrivals);
+    let of_handlers = handlers_heavy(run, arrivals);
     of_tasks | of_handlers
 }
 
@@ -83,12 +66,8 @@ pub fn add_work(owed: &mut [u64; PLACES], arrivals: &[u32])
     requires { (length arrivals.now ≤ row_places) × OwedInWord owed.old (length arrivals.now) }
     ensures { owed.new ≡ owed_arrived arrivals.now (length arrivals.now) owed.old }
 {
-    let mut k = 0;
-    while k < arrivals.len() {
-        let w = table::wide(arrivals[k]);
-        let o = owed[k];
-        owed[k] = o + w;
-        k += 1;
+    for (k, w) in arrivals.iter().enumerate() {
+        owed[k] += u64::from(*w);
     }
 }
 
@@ -101,49 +80,25 @@ fn ahead(clock: u64, ticks: u64, w: u32, old: u64) -> u64
 }
 
 // An arrival makes its row's next legal arrival clock + period.
-pub fn move_next<'a>(
-    next: &mut [u64; PLACES],
-    tasks: &'a [u32; TASK_NUMBERS],
-    handlers: &'a [u32; HANDLER_NUMBERS],
-    n: usize,
-    m: usize,
-    clock: u64,
-    arrivals: &[u32],
-)
-    requires { TableFair tasks.now handlers.now n m × (clock ≤ ticks_most) × (length arrivals.now ≡ n + m) }
-    ensures { next.new ≡ next_arrived clock (row_on tasks.now handlers.now n)
-        arrivals.now (length arrivals.now) next.old }
+pub fn move_next(next: &mut [u64; PLACES], run: &Run, arrivals: &[u32])
+    requires { TableFair run.now.tasks run.now.handlers run.now.task_count run.now.handler_count
+        × (run.now.clock ≤ ticks_most) × (length arrivals.now ≡ row_count run.now) }
+    ensures { next.new ≡ next_arrived run.now.clock (row_in run.now) arrivals.now (length arrivals.now) next.old }
 {
-    let mut k = 0;
-    while k < arrivals.len() {
-        let row = rows::row_at(tasks, handlers, n, m, k);
-        let old = next[k];
-        let new = ahead(clock, row.period, arrivals[k], old);
-        next[k] = new;
-        k += 1;
+    for (k, w) in arrivals.iter().enumerate() {
+        let row = rows::row_at(run, k);
+        next[k] = ahead(run.clock, row.period, *w, next[k]);
     }
 }
 
 // An arrival makes its task's deadline clock + the task's own.
-pub fn move_due<'a>(
-    due: &mut [u64; TASKS_MOST],
-    tasks: &'a [u32; TASK_NUMBERS],
-    handlers: &'a [u32; HANDLER_NUMBERS],
-    n: usize,
-    m: usize,
-    clock: u64,
-    arrivals: &[u32],
-)
-    requires { TableFair tasks.now handlers.now n m × (clock ≤ ticks_most) × (length arrivals.now ≡ n + m) }
-    ensures { due.new ≡ due_arrived clock (row_on tasks.now handlers.now n)
-        arrivals.now n due.old }
+pub fn move_due(due: &mut [u64; TASKS_MOST], run: &Run, arrivals: &[u32])
+    requires { TableFair run.now.tasks run.now.handlers run.now.task_count run.now.handler_count
+        × (run.now.clock ≤ ticks_most) × (length arrivals.now ≡ row_count run.now) }
+    ensures { due.new ≡ due_arrived run.now.clock (row_in run.now) arrivals.now run.now.task_count due.old }
 {
-    let mut k = 0;
-    while k < n {
-        let row = rows::row_at(tasks, handlers, n, m, k);
-        let old = due[k];
-        let new = ahead(clock, row.deadline, arrivals[k], old);
-        due[k] = new;
-        k += 1;
+    for k in 0..run.task_count {
+        let row = rows::row_at(run, k);
+        due[k] = ahead(run.clock, row.deadline, arrivals[k], due[k]);
     }
 }

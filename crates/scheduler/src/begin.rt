@@ -3,8 +3,8 @@ ghost use Rattle.std.specs.Prelude.{◌++◌, ◌≡◌, ◌≤◌, length, drop
 ghost use Rattle.demand.specs.Refusals.{table_refusal};
 ghost use Rattle.scheduler.specs.Start.{fresh_run, no_run};
 
+use crate::Run;
 use crate::sizes::{HANDLER_NUMBERS, PLACES, TASK_NUMBERS};
-use crate::{Late, Run};
 use demand::table;
 use demand::table::{Kind, TASKS_MOST};
 
@@ -13,11 +13,7 @@ fn copy_in(out: &mut [u32], s: &[u32])
     requires { length s.now ≤ length out.old }
     ensures { out.new ≡ s.now ++ drop (length s.now) out.old }
 {
-    let mut k = 0;
-    while k < s.len() {
-        out[k] = s[k];
-        k += 1;
-    }
+    out[..s.len()].copy_from_slice(s);
 }
 
 // The fresh run of a table that meets no refusal.
@@ -34,12 +30,7 @@ pub fn fresh_run(tasks: &[u32], handlers: &[u32]) -> Run
         handlers: h,
         task_count: table::count(Kind::Task, tasks),
         handler_count: table::count(Kind::Handler, handlers),
-        clock: 0,
-        next: [0u64; PLACES],
-        due: [0u64; TASKS_MOST],
-        owed: [0u64; PLACES],
-        over: false,
-        late: Late::Nobody,
+        ..no_run()
     }
 }
 
@@ -57,6 +48,6 @@ pub fn no_run() -> Run
         due: [0u64; TASKS_MOST],
         owed: [0u64; PLACES],
         over: false,
-        late: Late::Nobody,
+        late: None,
     }
 }

@@ -5,14 +5,12 @@ ghost use Rattle.demand.specs.Rows.{row_of};
 ghost use Rattle.scheduler.specs.Bounds.{miscounts, names, out_of_bounds};
 ghost use Rattle.scheduler.specs.Inside.Counted.{Fitting};
 ghost use Rattle.scheduler.specs.Inside.OnePass.{earliest_due, task_out, task_out_at, handler_out, handler_out_at, late_out};
-ghost use Rattle.scheduler.specs.Runs.{run_of};
 ghost use Rattle.scheduler.specs.Scans.{at, any};
 ghost use Rattle.scheduler.specs.Tick.{late_row};
 
-use crate::sizes::{HANDLER_NUMBERS, PLACES, TASK_NUMBERS};
-use crate::{Late, Run, places, rows, tick};
+use crate::{Run, places, rows, tick};
 use demand::table;
-use demand::table::{Kind, Row, TASKS_MOST};
+use demand::table::Row;
 
 fn miscounts(n: usize, m: usize) -> bool
     ensures { result ≡ miscounts n m }
@@ -59,113 +57,66 @@ fn handler_out(row: Row, next: u64, owed: u64, clock: u64) -> bool
     next_far | much
 }
 
-// Does a clause speak against one of n tasks?
-fn tasks_out<'a>(
-    tasks: &'a [u32; TASK_NUMBERS],
-    next: &'a [u64; PLACES],
-    due: &'a [u64; TASKS_MOST],
-    owed: &'a [u64; PLACES],
-    n: usize,
-    clock: u64,
-    first: u64,
-) -> bool
-    requires { (n ≤ tasks_most) × (clock ≤ ticks_most) }
-    ensures { result ≡ any (task_out_at clock first tasks.now next.now
-        due.now owed.now) n }
+// Does a clause speak against a task?
+fn tasks_out(run: &Run, first: u64) -> bool
+    requires { (run.now.task_count ≤ tasks_most) × (run.now.clock ≤ ticks_most) }
+    ensures { result ≡ any (task_out_at run.now.clock first run.now.tasks run.now.next
+        run.now.due run.now.owed) run.now.task_count }
 {
     let mut bad = false;
-    let mut k = 0;
-    while k < n {
-        let row = rows::row_of(Kind::Task, tasks, k);
-        let x = next[k];
-        let d = due[k];
-        let o = owed[k];
-        bad = bad | task_out(row, x, d, o, clock, first);
-        k += 1;
+    for k in 0..run.task_count {
+        let row = rows::task(run, k);
+        bad |= task_out(row, run.next[k], run.due[k], run.owed[k], run.clock, first);
     }
     bad
 }
 
-// Does a clause speak against one of m handlers behind n tasks?
-fn handlers_out<'a>(
-    handlers: &'a [u32; HANDLER_NUMBERS],
-    next: &'a [u64; PLACES],
-    owed: &'a [u64; PLACES],
-    n: usize,
-    m: usize,
-    clock: u64,
-) -> bool
-    requires { Fitting n m × (clock ≤ ticks_most) }
-    ensures { result ≡ any (handler_out_at clock handlers.now next.now owed.now n) m }
+// Does a clause speak against a handler?
+fn handlers_out(run: &Run) -> bool
+    requires { Fitting run.now.task_count run.now.handler_count × (run.now.clock ≤ ticks_most) }
+    ensures { result ≡ any (handler_out_at run.now.clock run.now.handlers run.now.next
+        run.now.owed run.now.task_count) run.now.handler_count }
 {
+    let n = run.task_count;
     let mut bad = false;
-    let mut i = 0;
-    while i < m {
-        let row = rows::row_of(Kind::Handler, handlers, i);
-        let k = n + i;
-        let x = next[k];
-        let o = owed[k];
-        bad = bad | handler_out(row, x, o, clock);
-        i += 1;
+    for i in 0..run.handler_count {
+        let row = rows::handler(run, i);
+        bad |= handler_out(row, run.next[n + i], run.owed[n + i], run.clock);
     }
     bad
 }
 
-fn names(late: Late, first: Late) -> bool
+// Is the late row named, and that of the first late task?
+fn names(late: Option<usize>, first: Option<usize>) -> bool
     ensures { result ≡ names late first }
 {
-    match late {
-        Late::Nobody => false,
-        Late::Task { row } => match first {
-            Late::Nobody => false,
-            Late::Task { row: other } => row == other,
-        },
-    }
+    late.is_some() & (late == first)
 }
 
 // Over, is its late row not the first late task; not over, does it name a late row?
-fn late_out<'a>(
-    due: &'a [u64; TASKS_MOST],
-    owed: &'a [u64; PLACES],
-    n: usize,
-    clock: u64,
-    over: bool,
-    late: Late,
-) -> bool
-    requires { n ≤ tasks_most }
-    ensures { result ≡ late_out over late (late_row clock (at due.now) owed.now n) }
+fn late_out(run: &Run) -> bool
+    requires { run.now.task_count ≤ tasks_most }
+    ensures { result ≡ late_out run.now.over run.now.late (late_row run.now.clock (at run.now.due)
+        run.now.owed run.now.task_count) }
 {
-    if over {
-        let first = tick::late_row(due, owed, n, clock);
-        !names(late, first)
+    if run.over {
+        !names(run.late, tick::late_row(run))
     } else {
-        tick::is_task(late)
+        run.late.is_some()
     }
 }
 
-// Is the run of these fields out of bounds?
-pub fn out_of_bounds<'a>(
-    tasks: &'a [u32; TASK_NUMBERS],
-    handlers: &'a [u32; HANDLER_NUMBERS],
-    next: &'a [u64; PLACES],
-    due: &'a [u64; TASKS_MOST],
-    owed: &'a [u64; PLACES],
-    n: usize,
-    m: usize,
-    clock: u64,
-    over: bool,
-    late: Late,
-) -> bool
-    ensures { result ≡ out_of_bounds (run_of tasks.now handlers.now n m clock
-        next.now due.now owed.now over late) }
+// Is a run out of bounds?
+pub fn out_of_bounds(run: &Run) -> bool
+    ensures { result ≡ out_of_bounds run.now }
 {
-    if miscounts(n, m) | (Run::TICKS_MOST < clock) {
+    if miscounts(run.task_count, run.handler_count) | (Run::TICKS_MOST < run.clock) {
         return true;
     }
-    let first = earliest_due(over, clock);
-    let past_the_rows = places::places_used(tasks, handlers, next, due, owed, n, m);
-    let of_tasks = tasks_out(tasks, next, due, owed, n, clock, first);
-    let of_handlers = handlers_out(handlers, next, owed, n, m, clock);
-    let late = late_out(due, owed, n, clock, over, late);
+    let first = earliest_due(run.over, run.clock);
+    let past_the_rows = places::places_used(run);
+    let of_tasks = tasks_out(run, first);
+    let of_handlers = handlers_out(run);
+    let late = late_out(run);
     past_the_rows | of_tasks | of_handlers | late
 }

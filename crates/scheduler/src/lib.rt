@@ -16,12 +16,13 @@ ghost use Rattle.scheduler.specs.Promise.{FreshSays, StepSays};
 
 use crate::sizes::{HANDLER_NUMBERS, PLACES, TASK_NUMBERS};
 use crate::tick::Key;
+use demand::refusal::Refusal;
 use demand::table;
 use demand::table::TASKS_MOST;
 
 // A run: its table, the clock, for each row the next legal arrival and the work owed (handlers behind tasks), for each task the
-// tick by which its last job must be done, whether it is over, and who was late.
-#[derive(Clone, Copy)]
+// tick by which its last job must be done, whether it is over, and the row of the task that was late.
+#[derive(Clone, Copy, Debug, PartialEq, Eq)]
 pub struct Run {
     pub tasks: [u32; TASK_NUMBERS],
     pub handlers: [u32; HANDLER_NUMBERS],
@@ -32,50 +33,36 @@ pub struct Run {
     pub due: [u64; TASKS_MOST],
     pub owed: [u64; PLACES],
     pub over: bool,
-    pub late: Late,
-}
-
-// Who was late.
-#[derive(Clone, Copy)]
-pub enum Late {
-    Nobody,
-    Task { row: usize },
+    pub late: Option<usize>,
 }
 
 // Who ran.
-#[derive(Clone, Copy)]
+#[derive(Clone, Copy, Debug, PartialEq, Eq)]
 pub enum Ran {
     Handler { row: usize },
     Task { row: usize },
     Idle,
 }
 
-// Who ran and who is late, or the number of the refusal.
-#[derive(Clone, Copy)]
-pub enum Answer {
-    Ticked { ran: Ran, late: Late },
-    Refused { number: u32 },
+// Who ran, and the row of the task that is late, if one is.
+#[derive(Clone, Copy, Debug, PartialEq, Eq)]
+pub struct Ticked {
+    pub ran: Ran,
+    pub late: Option<usize>,
 }
 
 // The next run beside the answer.
-#[derive(Clone, Copy)]
+#[derive(Clone, Copy, Debug, PartialEq, Eq)]
 pub struct Stepped {
     pub run: Run,
-    pub answer: Answer,
-}
-
-// A fresh run stands beside this, or the number of the refusal.
-#[derive(Clone, Copy)]
-pub enum Start {
-    Ready,
-    Refused { number: u32 },
+    pub answer: Result<Ticked, Refusal>,
 }
 
 // A fresh run beside the answer.
-#[derive(Clone, Copy)]
+#[derive(Clone, Copy, Debug, PartialEq, Eq)]
 pub struct Fresh {
     pub run: Run,
-    pub answer: Start,
+    pub answer: Result<(), Refusal>,
 }
 
 impl Run {
@@ -89,17 +76,15 @@ impl Run {
     pub fn fresh(tasks: &[u32], handlers: &[u32]) -> Fresh
         ensures { FreshSays tasks.now handlers.now result }
     {
-        let number = demand::refusal::of_table(tasks, handlers);
-        if number == 0 {
-            Fresh {
+        match demand::refusal::of_table(tasks, handlers) {
+            Ok(()) => Fresh {
                 run: begin::fresh_run(tasks, handlers),
-                answer: Start::Ready,
-            }
-        } else {
-            Fresh {
+                answer: Ok(()),
+            },
+            Err(refusal) => Fresh {
                 run: begin::no_run(),
-                answer: Start::Refused { number },
-            }
+                answer: Err(refusal),
+            },
         }
     }
 
@@ -122,26 +107,11 @@ impl Run {
 fn step_by(run: Run, key: Key, arrivals: &[u32]) -> Stepped
     ensures { StepSays (key_of key) run arrivals.now result }
 {
-    let late = run.late;
-    let number = refusal::of_step(
-        &run.tasks,
-        &run.handlers,
-        &run.next,
-        &run.due,
-        &run.owed,
-        run.task_count,
-        run.handler_count,
-        run.clock,
-        run.over,
-        late,
-        arrivals,
-    );
-    if number == 0 {
-        tick::ticked(run, key, arrivals)
-    } else {
-        Stepped {
+    match refusal::of_step(&run, arrivals) {
+        Ok(()) => tick::ticked(run, key, arrivals),
+        Err(why) => Stepped {
             run,
-            answer: Answer::Refused { number },
-        }
+            answer: Err(why),
+        },
     }
 }

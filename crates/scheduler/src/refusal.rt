@@ -1,46 +1,32 @@
-// Refusals 6 to 11: the lowest number that applies to a step, 0 where none does.
+// Refusals 6 to 11: the one of the lowest number that applies to a step.
 ghost use Rattle.std.specs.Prelude.{◌≡◌};
-ghost use Rattle.scheduler.specs.Runs.{run_of};
+ghost use Rattle.demand.specs.Numbered.{refused};
 ghost use Rattle.scheduler.specs.Steps.{step_refusal};
 
-use crate::sizes::{HANDLER_NUMBERS, PLACES, TASK_NUMBERS};
-use crate::{Late, Run, arrivals, bounds};
-use demand::table::TASKS_MOST;
+use crate::{Run, arrivals, bounds};
+use demand::refusal::Refusal;
 
-// The refusal of a step of the run of these fields.
-pub fn of_step<'a>(
-    tasks: &'a [u32; TASK_NUMBERS],
-    handlers: &'a [u32; HANDLER_NUMBERS],
-    next: &'a [u64; PLACES],
-    due: &'a [u64; TASKS_MOST],
-    owed: &'a [u64; PLACES],
-    n: usize,
-    m: usize,
-    clock: u64,
-    over: bool,
-    late: Late,
-    arrivals: &[u32],
-) -> u32
-    ensures { result ≡ step_refusal (run_of tasks.now handlers.now n m clock
-        next.now due.now owed.now over late) arrivals.now }
+// The refusal of a step of this run.
+pub fn of_step(run: &Run, arrivals: &[u32]) -> Result<(), Refusal>
+    ensures { refused result ≡ step_refusal run.now arrivals.now }
 {
-    if bounds::out_of_bounds(tasks, handlers, next, due, owed, n, m, clock, over, late) {
-        return 6;
+    if bounds::out_of_bounds(run) {
+        return Err(Refusal::RunOutOfBounds);
     }
-    if over {
-        return 7;
+    if run.over {
+        return Err(Refusal::RunOver);
     }
-    if clock == Run::TICKS_MOST {
-        return 8;
+    if run.clock == Run::TICKS_MOST {
+        return Err(Refusal::ClockAtEnd);
     }
-    if arrivals.len() != n + m {
-        return 9;
+    if arrivals.len() != run.task_count + run.handler_count {
+        return Err(Refusal::ArrivalsMiscounted);
     }
-    if arrivals::some_early(next, arrivals, clock) {
-        return 10;
+    if arrivals::some_early(run, arrivals) {
+        return Err(Refusal::ArrivalEarly);
     }
-    if arrivals::some_heavy(tasks, handlers, n, m, arrivals) {
-        return 11;
+    if arrivals::some_heavy(run, arrivals) {
+        return Err(Refusal::ArrivalHeavy);
     }
-    0
+    Ok(())
 }

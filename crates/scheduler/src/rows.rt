@@ -1,12 +1,12 @@
 // What stands at a place: a row of the table.
-ghost use Rattle.std.specs.Prelude.{◌≡◌, ◌+◌, ◌*◌, ◌<◌, ◌≤◌, length};
-ghost use Rattle.demand.specs.Limits.{tasks_most};
-ghost use Rattle.demand.specs.Rows.{rows_of, width, row_at, row_of};
+ghost use Rattle.std.specs.Prelude.{◌≡◌, ◌+◌, ◌*◌, ◌<◌, ◌≤◌};
+ghost use Rattle.demand.specs.Limits.{tasks_most, handlers_most};
+ghost use Rattle.demand.specs.Rows.{tasks_of, handlers_of, width, row_at, row_of};
 ghost use Rattle.scheduler.specs.Inside.Counted.{Fitting};
 ghost use Rattle.scheduler.specs.Inside.Keys.{periods_of};
-ghost use Rattle.scheduler.specs.Runs.{row_on};
+ghost use Rattle.scheduler.specs.Runs.{row_in};
 
-use crate::sizes::{HANDLER_NUMBERS, TASK_NUMBERS};
+use crate::Run;
 use demand::table;
 use demand::table::{Kind, Row, TASKS_MOST};
 
@@ -18,44 +18,44 @@ pub fn numbers(kind: Kind, count: usize) -> usize
     table::width(kind) * count
 }
 
-// The row at place i of a flat list.
-pub fn row_of(kind: Kind, s: &[u32], i: usize) -> Row
-    requires { (i < tasks_most) × (width kind * i + width kind ≤ length s.now) }
-    ensures { row_of result ≡ row_at (rows_of kind s.now) i }
+// The row of task k.
+pub fn task(run: &Run, k: usize) -> Row
+    requires { k < tasks_most }
+    ensures { row_of result ≡ row_at (tasks_of run.now.tasks) k }
 {
-    let at = numbers(kind, i);
-    table::head(kind, &s[at..])
+    table::row_at(Kind::Task, &run.tasks, k)
 }
 
-// The row at place k, of n tasks and m handlers behind them.
-pub fn row_at<'a>(
-    tasks: &'a [u32; TASK_NUMBERS],
-    handlers: &'a [u32; HANDLER_NUMBERS],
-    n: usize,
-    m: usize,
-    k: usize,
-) -> Row
-    requires { Fitting n m × (k < n + m) }
-    ensures { row_of result ≡ row_on tasks.now handlers.now n k }
+// The row of handler i.
+pub fn handler(run: &Run, i: usize) -> Row
+    requires { i < handlers_most }
+    ensures { row_of result ≡ row_at (handlers_of run.now.handlers) i }
 {
+    table::row_at(Kind::Handler, &run.handlers, i)
+}
+
+// The row at place k, handlers behind tasks.
+pub fn row_at(run: &Run, k: usize) -> Row
+    requires { Fitting run.now.task_count run.now.handler_count
+        × (k < run.now.task_count + run.now.handler_count) }
+    ensures { row_of result ≡ row_in run.now k }
+{
+    let n = run.task_count;
     if k < n {
-        row_of(Kind::Task, tasks, k)
+        task(run, k)
     } else {
-        row_of(Kind::Handler, handlers, k - n)
+        handler(run, k - n)
     }
 }
 
-// The periods of the first n tasks, and zeros behind.
-pub fn periods(tasks: &[u32; TASK_NUMBERS], n: usize) -> [u64; TASKS_MOST]
-    requires { n ≤ tasks_most }
-    ensures { result ≡ periods_of tasks.now n }
+// The periods of the tasks, and zeros behind.
+pub fn periods(run: &Run) -> [u64; TASKS_MOST]
+    requires { run.now.task_count ≤ tasks_most }
+    ensures { result ≡ periods_of run.now.tasks run.now.task_count }
 {
     let mut all = [0u64; TASKS_MOST];
-    let mut k = 0;
-    while k < n {
-        let row = row_of(Kind::Task, tasks, k);
-        all[k] = row.period;
-        k += 1;
+    for k in 0..run.task_count {
+        all[k] = task(run, k).period;
     }
     all
 }

@@ -9,18 +9,18 @@
 --   standing, stood      == the run at another clock with other work owed; where it is told by the deadlines who is late
 --   slid r ran d         == the run d ticks on, all of which ran took, where nobody is late
 --   Follows r ran        ran had the tick before run r, and has the next one if it is owed work and the run goes on
+--   no_tick r e          == the piece without a tick, where a step is refused or none is asked for
 --   piece_after r ran left == the piece whose first tick left run r
-use Rattle.std.specs.Prelude.{Bool, false, List, ◌≡◌, ℕ, zero, suc, ◌+◌, ◌-◌, ◌≤◌, ◌<◌, min, eqb, get_or, set}
+use Rattle.std.specs.Prelude.{Bool, false, List, Option, None, ◌≡◌, ℕ, zero, suc, ◌+◌, ◌-◌, ◌≤◌, ◌<◌, min, eqb, get_or, set}
 use Rattle.advance.specs.Stretch.{stretch}
 use Rattle.advance.specs.declared.Piece.{Piece}
 use Rattle.demand.specs.Limits.{tasks_most, handlers_most, ticks_most}
 use Rattle.demand.specs.Tests.{pick}
+use Rattle.demand.specs.declared.refusal.Refusal.{Refusal}
 use Rattle.scheduler.specs.Bounds.{InBounds}
 use Rattle.scheduler.specs.Runs.{run_of}
 use Rattle.scheduler.specs.Scans.{at}
 use Rattle.scheduler.specs.Tick.{goes_to, late_row, is_task}
-use Rattle.scheduler.specs.declared.Late.{Late}
-use Rattle.scheduler.specs.declared.Late.TheVariants as late
 use Rattle.scheduler.specs.declared.Ran.{Ran}
 use Rattle.scheduler.specs.declared.Ran.TheVariants.{Handler, Task, Idle}
 use Rattle.scheduler.specs.declared.Run.{Run}
@@ -71,7 +71,7 @@ PayableBy owed n Idle d = Unit
 
 -- ---- the run then
 
-abbrev pub standing : Run → ℕ → List ℕ → Late → Run
+abbrev pub standing : Run → ℕ → List ℕ → Option ℕ → Run
 standing r clock owed late =
     run_of r.tasks r.handlers r.task_count r.handler_count clock r.next r.due owed (is_task late) late
 
@@ -79,13 +79,16 @@ abbrev pub stood : Run → ℕ → List ℕ → Run
 stood r clock owed = standing r clock owed (late_row clock (at r.due) owed r.task_count)
 
 unfoldable pub slid : Run → Ran → ℕ → Run
-slid r ran d = standing r (r.clock + d) (paid_by r.owed r.task_count ran d) late.Nobody
+slid r ran d = standing r (r.clock + d) (paid_by r.owed r.task_count ran d) None
 
 pub record Follows (r : Run) (ran : Ran) : Type 0 where
   pub inside : InBounds r
   pub placed : Placed ran
   pub same : r.over ≡ false → 0 < work_of r.owed r.task_count ran → runner r ≡ ran
 
+abbrev pub no_tick : Run → Option Refusal → Piece
+no_tick r refusal = record { run = r; ran = Idle; ticks = 0; refusal = refusal }
+
 unfoldable pub piece_after : Run → Ran → ℕ → Piece
 piece_after r ran left =
-    record { run = stretch (lasts_in r ran left) r; ran = ran; ticks = lasts_in r ran left + 1; number = 0 }
+    record { run = stretch (lasts_in r ran left) r; ran = ran; ticks = lasts_in r ran left + 1; refusal = None }

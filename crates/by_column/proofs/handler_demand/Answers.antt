@@ -1,4 +1,4 @@
-use Rattle.columns.proofs.Lent.{held-counted, from-rows, from-counts}
+use Rattle.columns.proofs.Lent.{from-rows, from-counts}
 use Rattle.columns.specs.Order.{row_order}
 use Rattle.demand.specs.Answers.{HandlerSays}
 use Rattle.demand.specs.Refusals.{asked_refusal}
@@ -6,12 +6,6 @@ use Rattle.demand.specs.Rows.{handlers_of}
 use Rattle.demand.specs.declared.table.Kind.TheVariants.{Handler}
 use Rattle.by_column.proofs.Alike.{handler-alike}
 use Rattle.by_column.proofs.handler_demand.Goals as goal
-
-pub as_slice-requires : goal.as_slice-requires
-as_slice-requires c = (held-counted _ _ _ c.in-Some.ensures).0.0
-
-pub as_slice-requires-in-Some : goal.as_slice-requires-in-Some
-as_slice-requires-in-Some c = (held-counted _ _ _ c.in-Some.ensures).1.0
 
 pub returns-in-Some : goal.returns-in-Some
 returns-in-Some c =

@@ -1,4 +1,4 @@
-use Rattle.columns.proofs.Lent.{held-counted, from-rows, from-counts}
+use Rattle.columns.proofs.Lent.{from-rows, from-counts}
 use Rattle.columns.specs.Order.{row_order}
 use Rattle.demand.specs.Answers.{DemandSays}
 use Rattle.demand.specs.Demands.{due}
@@ -7,12 +7,6 @@ use Rattle.demand.specs.Rows.{tasks_of}
 use Rattle.demand.specs.declared.table.Kind.TheVariants.{Task}
 use Rattle.by_column.proofs.Alike.{demand-alike}
 use Rattle.by_column.proofs.task_demand.Goals as goal
-
-pub as_slice-requires : goal.as_slice-requires
-as_slice-requires c = (held-counted _ _ _ c.in-Some.ensures).0.0
-
-pub as_slice-requires-in-Some : goal.as_slice-requires-in-Some
-as_slice-requires-in-Some c = (held-counted _ _ _ c.in-Some.ensures).1.0
 
 pub returns-in-Some : goal.returns-in-Some
 returns-in-Some c =

@@ -1,13 +1,7 @@
-use Rattle.columns.proofs.Lent.{held-counted, from-rows, from-counts}
+use Rattle.columns.proofs.Lent.{from-rows, from-counts}
 use Rattle.trim.specs.Promise.{TrimSays}
 use Rattle.by_column.proofs.Alike.{trim-alike}
 use Rattle.by_column.proofs.trim.Goals as goal
-
-pub as_slice-requires : goal.as_slice-requires
-as_slice-requires c = (held-counted _ _ _ c.in-Some.ensures).0.0
-
-pub as_slice-requires-in-Some : goal.as_slice-requires-in-Some
-as_slice-requires-in-Some c = (held-counted _ _ _ c.in-Some.ensures).1.0
 
 pub returns-in-Some : goal.returns-in-Some
 returns-in-Some c =

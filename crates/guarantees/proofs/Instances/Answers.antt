@@ -5,23 +5,26 @@ use mathlib.Core.List.{List, [], ◌∷◌, ◌++◌}
 use mathlib.Core.Path.{◌≡◌, refl}
 use Prim.Native.Nat.{ℕ, zero, suc}
 use lib.ListN.{length, set}
+use Rattle.demand.specs.Numbered.{refused}
+use Rattle.demand.specs.declared.refusal.Refusal.TheVariants.{ArrivalEarly, RowOutOfRange}
+use Rattle.demand.specs.declared.refusal.Refusal.{Refusal}
+use Rattle.std.specs.Prelude.{None, Some, Option, Result, Ok, Err}
 use Rattle.demand.specs.Refusals.{table_refusal, table_tests}
 use Rattle.demand.specs.Rows.{some, tasks_of, handlers_of}
 use Rattle.demand.specs.Tests.{first_refusal}
 use Rattle.machine.specs.Schedules.{beats}
 use Rattle.scheduler.specs.Bounds.{out_of_bounds}
-use Rattle.scheduler.specs.Promise.{Who, nobody, handler, task, Figures, figures, start_figures}
+use Rattle.scheduler.specs.Promise.{Who, nobody, handler, task, Figures, figures}
 use Rattle.scheduler.specs.Reached.{offered_by}
 use Rattle.scheduler.specs.Runs.{run_of}
 use Rattle.scheduler.specs.Scans.{any, first_of, filled, used}
 use Rattle.scheduler.specs.Start.{padded, zeros, no_run, fresh_run, fresh_of}
 use Rattle.scheduler.specs.Steps.{step_tests, step_refusal, step_by, step_of}
 use Rattle.scheduler.specs.Tick.{next_arrived, due_arrived, owed_arrived, earliest, goes_to, late_row, ticked_by}
-use Rattle.scheduler.specs.declared.Answer.TheVariants.{Ticked, Refused}
-use Rattle.scheduler.specs.declared.Late.TheVariants as late
+use Rattle.scheduler.specs.declared.Ran.{Ran}
 use Rattle.scheduler.specs.declared.Ran.TheVariants as ran
 use Rattle.scheduler.specs.declared.Run.{Run}
-use Rattle.scheduler.specs.declared.Start.TheVariants as start
+use Rattle.scheduler.specs.declared.Ticked.{Ticked}
 use Rattle.guarantees.specs.Patterns.{pattern_to}
 use Rattle.guarantees.specs.Synchronous.{beat_of, sync_run}
 use Rattle.guarantees.proofs.Instances.Cases.{tasks-9, handlers-9}
@@ -32,32 +35,33 @@ told code who row who_late row_late = record { code = code; ran = who; row = row
 
 -- ---- each case of an answer
 
-handler-ran : figures (Ticked (ran.Handler 3) late.Nobody) ≡ told 0 handler 3 nobody 0
+abbrev ticked : Ran → Option ℕ → Result Ticked Refusal
+ticked ran late = Ok (record { ran = ran; late = late })
+
+handler-ran : figures (ticked (ran.Handler 3) None) ≡ told 0 handler 3 nobody 0
 unfolding figures
 handler-ran = refl
 
-task-ran : figures (Ticked (ran.Task 5) late.Nobody) ≡ told 0 task 5 nobody 0
+task-ran : figures (ticked (ran.Task 5) None) ≡ told 0 task 5 nobody 0
 unfolding figures
 task-ran = refl
 
-idle-late : figures (Ticked ran.Idle (late.Task 7)) ≡ told 0 nobody 0 task 7
+idle-late : figures (ticked ran.Idle (Some 7)) ≡ told 0 nobody 0 task 7
 unfolding figures
 idle-late = refl
 
-task-late : figures (Ticked (ran.Task 5) (late.Task 2)) ≡ told 0 task 5 task 2
+task-late : figures (ticked (ran.Task 5) (Some 2)) ≡ told 0 task 5 task 2
 unfolding figures
 task-late = refl
 
-refused-10 : figures (Refused 10) ≡ told 10 nobody 0 nobody 0
+refused-10 : figures (Err ArrivalEarly) ≡ told 10 nobody 0 nobody 0
 unfolding figures
 refused-10 = refl
 
-ready : start_figures start.Ready ≡ 0
-unfolding start_figures
+ready : refused {A = Unit} (Ok tt) ≡ 0
 ready = refl
 
-refused-3 : start_figures (start.Refused 3) ≡ 3
-unfolding start_figures
+refused-3 : refused {A = Unit} (Err RowOutOfRange) ≡ 3
 refused-3 = refl
 
 -- ---- case 13: the ten ticks go to H0 T0 T0 T1 H0 T1 T1 T1 H0 T0, then task 0 is late at clock 10
@@ -116,7 +120,7 @@ nothing = refl
 abbrev beside : Run
 beside = (fresh_of (0 ∷ 5 ∷ 5 ∷ []) (1 ∷ 4 ∷ [])).run
 
-fresh-3 : (fresh_of (0 ∷ 5 ∷ 5 ∷ []) (1 ∷ 4 ∷ [])).answer ≡ start.Refused 3
+fresh-3 : (fresh_of (0 ∷ 5 ∷ 5 ∷ []) (1 ∷ 4 ∷ [])).answer ≡ Err RowOutOfRange
 unfolding fresh_of table_refusal first_refusal table_tests some tasks_of handlers_of
 fresh-3 = refl
 
@@ -135,7 +139,7 @@ over-beside : beside.over ≡ false
 unfolding fresh_of no_run table_refusal first_refusal table_tests some tasks_of handlers_of
 over-beside = refl
 
-late-beside : beside.late ≡ late.Nobody
+late-beside : beside.late ≡ None
 unfolding fresh_of no_run table_refusal first_refusal table_tests some tasks_of handlers_of
 late-beside = refl
 
@@ -144,12 +148,12 @@ late-beside = refl
 abbrev over_last : Run
 over_last =
     run_of (padded 192 (2 ∷ 5 ∷ 5 ∷ [])) (zeros 32) 1 0 1000000000
-    (set (zeros 80) 0 1000000000) (set (zeros 64) 0 1000000000) (set (zeros 80) 0 1) true (late.Task 0)
+    (set (zeros 80) 0 1000000000) (set (zeros 64) 0 1000000000) (set (zeros 80) 0 1) true (Some 0)
 
 abbrev going-last : Run
 going-last =
     run_of (padded 192 (2 ∷ 5 ∷ 5 ∷ [])) (zeros 32) 1 0 1000000000
-    (set (zeros 80) 0 1000000000) (set (zeros 64) 0 1000000000) (zeros 80) false late.Nobody
+    (set (zeros 80) 0 1000000000) (set (zeros 64) 0 1000000000) (zeros 80) false None
 
 over-7 : step_refusal over_last (0 ∷ []) ≡ 7
 unfolding first_refusal tasks_of handlers_of padded zeros step_refusal step_tests out_of_bounds any used first_of late_row

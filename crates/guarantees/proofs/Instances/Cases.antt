@@ -4,6 +4,8 @@ use mathlib.Core.List.{List, [], ◌∷◌}
 use mathlib.Core.Path.{◌≡◌, refl, sym, ◌∙◌}
 use native.Mathlib.Omega.{arith}
 use Prim.Native.Nat.{ℕ, ◌≤◌}
+use Rattle.demand.specs.declared.refusal.Refusal.{Refusal}
+use Rattle.std.specs.Prelude.{Ok, Some, Result}
 use Rattle.demand.specs.Demands.{called, grow, taken, handled, left, due}
 use Rattle.demand.specs.Refusals.{table_refusal, table_tests}
 use Rattle.demand.specs.Tests.{first_refusal}
@@ -37,8 +39,6 @@ use Rattle.machine.specs.Machine.{sync}
 use Rattle.scheduler.specs.Start.{fresh_of, fresh_run, padded, zeros}
 use Rattle.scheduler.specs.Steps.{step_of, step_by, step_tests, step_refusal}
 use Rattle.scheduler.specs.Tick.{next_arrived, due_arrived, owed_arrived, earliest, goes_to, late_row, ticked_by}
-use Rattle.scheduler.specs.declared.Late.TheVariants as late
-use Rattle.scheduler.specs.declared.Start.TheVariants.{Ready}
 use Rattle.guarantees.proofs.PeriodApart.{period-apart}
 use Rattle.scheduler.proofs.Reached.{fresh-in-bounds}
 use Rattle.guarantees.proofs.LateExactly.{late-exactly}
@@ -55,8 +55,8 @@ tasks-6 = 1 ∷ 3 ∷ 3 ∷ []
 abbrev pub handlers-6 : List ℕ
 handlers-6 = 2 ∷ 10 ∷ []
 
-abbrev pub answer-6 : Answer
-answer-6 = verdict.Fits 533334 1
+abbrev pub answer-6 : Result Answer Refusal
+answer-6 = Ok (verdict.Fits 533334 1)
 
 pub says-6 : VerdictSays tasks-6 handlers-6 answer-6
 unfolding VerdictSays figures cases plain
@@ -71,7 +71,7 @@ pub never-late-6 : (offers : List (List ℕ)) → (offered offers (fresh_of task
 never-late-6 = never-late tasks-6 handlers-6 answer-6 says-6 word-6
 
 -- .. and some offers are accepted: both rows at once, at full cost.
-pub ready-6 : (fresh_of tasks-6 handlers-6).answer ≡ Ready
+pub ready-6 : (fresh_of tasks-6 handlers-6).answer ≡ Ok tt
 unfolding fresh_of table_refusal first_refusal table_tests some tasks_of handlers_of
 ready-6 = refl
 
@@ -97,7 +97,7 @@ unfolding fresh_of fresh_run table_refusal first_refusal table_tests some tasks_
 apart-6 = period-apart due_of (fresh_of tasks-6 handlers-6).run (1 ∷ 2 ∷ []) (1 ∷ 0 ∷ []) between-6 0 (fresh-in-bounds tasks-6 handlers-6 ready-6) (omega arith) accepted-6 (omega arith) again-6 (omega arith)
 
 -- Some schedule meets every deadline for ever, ours: so whatever the promise allows is a yes.
-pub optimal-6 : (r : Answer) → VerdictSays tasks-6 handlers-6 r → (figures r).word ≡ fits
+pub optimal-6 : (r : Result Answer Refusal) → VerdictSays tasks-6 handlers-6 r → (figures r).word ≡ fits
 unfolding VerdictSays
 optimal-6 r says =
     let saying : SaysFits tasks-6 handlers-6 (figures answer-6) = says-fits tasks-6 handlers-6 (figures answer-6) word-6 says-6 in
@@ -111,8 +111,8 @@ tasks-9 = 2 ∷ 5 ∷ 5 ∷ 4 ∷ 8 ∷ 8 ∷ []
 abbrev pub handlers-9 : List ℕ
 handlers-9 = 1 ∷ 4 ∷ []
 
-abbrev pub answer-9 : Answer
-answer-9 = verdict.Misses (record { interval = 10; handler = 3; task = 8; left = 0; tested = 3 }) 1150000
+abbrev pub answer-9 : Result Answer Refusal
+answer-9 = Ok (verdict.Misses (record { interval = 10; handler = 3; task = 8; left = 0; tested = 3 }) 1150000)
 
 pub says-9 : VerdictSays tasks-9 handlers-9 answer-9
 unfolding VerdictSays figures cases plain
@@ -132,14 +132,14 @@ over-9 : (sync_run tasks-9 handlers-9 10).over ≡ true
 unfolding beat_of pattern_to beats offered_by fresh_of fresh_run table_refusal first_refusal table_tests some tasks_of handlers_of padded zeros step_by step_refusal step_tests out_of_bounds any used ticked_by next_arrived due_arrived owed_arrived filled goes_to earliest first_of late_row
 over-9 = refl
 
-late-row-9 : (sync_run tasks-9 handlers-9 10).late ≡ late.Task 0
+late-row-9 : (sync_run tasks-9 handlers-9 10).late ≡ Some 0
 unfolding beat_of pattern_to beats offered_by fresh_of fresh_run table_refusal first_refusal table_tests some tasks_of handlers_of padded zeros step_by step_refusal step_tests out_of_bounds any used ticked_by next_arrived due_arrived owed_arrived filled goes_to earliest first_of late_row
 late-row-9 = refl
 
 -- So task 0 is the first task owed work with its deadline at 10.
 pub first-late-9 :
     late_row 10 (at (sync_run tasks-9 handlers-9 10).due) (sync_run tasks-9 handlers-9 10).owed (sync_run tasks-9 handlers-9 10).task_count
-    ≡ late.Task 0
+    ≡ Some 0
 first-late-9 = sym late-9.late ∙ late-row-9
 
 -- No schedule that puts handlers first meets every deadline up to clock 10, ..
@@ -152,7 +152,7 @@ pub ours-9 : Timely (tasks_of tasks-9) (handlers_of handlers-9) 9 (sync 9 (tasks
 unfolding figures
 ours-9 = ours-is-one tasks-9 handlers-9 answer-9 says-9 word-9 9 (omega arith)
 
-pub ready-9 : (fresh_of tasks-9 handlers-9).answer ≡ Ready
+pub ready-9 : (fresh_of tasks-9 handlers-9).answer ≡ Ok tt
 unfolding fresh_of table_refusal first_refusal table_tests some tasks_of handlers_of
 ready-9 = refl
 
@@ -167,8 +167,8 @@ tasks-2 = 1 ∷ 4 ∷ 2 ∷ []
 abbrev pub handlers-2 : List ℕ
 handlers-2 = 2 ∷ 10 ∷ []
 
-abbrev pub answer-2 : Answer
-answer-2 = verdict.Misses (record { interval = 2; handler = 2; task = 1; left = 0; tested = 1 }) 450000
+abbrev pub answer-2 : Result Answer Refusal
+answer-2 = Ok (verdict.Misses (record { interval = 2; handler = 2; task = 1; left = 0; tested = 1 }) 450000)
 
 abbrev case-2 : Case
 case-2 = record { tasks = tasks-2; handlers = handlers-2; sheet = figures answer-2; beside = [] }
@@ -191,7 +191,7 @@ unfolding figures
 late-2 = late-exactly tasks-2 handlers-2 answer-2 says-2 word-2
 
 -- .. which is before the task may come again, as the same run computes tick by tick.
-late-row-2 : (sync_run tasks-2 handlers-2 2).late ≡ late.Task 0
+late-row-2 : (sync_run tasks-2 handlers-2 2).late ≡ Some 0
 unfolding beat_of pattern_to beats offered_by fresh_of fresh_run table_refusal first_refusal table_tests some tasks_of handlers_of padded zeros step_by step_refusal step_tests out_of_bounds any used ticked_by next_arrived due_arrived owed_arrived filled goes_to earliest first_of late_row
 late-row-2 = refl
 
@@ -208,8 +208,8 @@ no-schedule-2 = no-scheduler tasks-2 handlers-2 answer-2 says-2 word-2
 abbrev pub tasks-3 : List ℕ
 tasks-3 = 1 ∷ 4 ∷ 3 ∷ []
 
-abbrev pub answer-3 : Answer
-answer-3 = verdict.Fits 450000 1
+abbrev pub answer-3 : Result Answer Refusal
+answer-3 = Ok (verdict.Fits 450000 1)
 
 abbrev case-3 : Case
 case-3 = record { tasks = tasks-3; handlers = handlers-2; sheet = figures answer-3; beside = [] }

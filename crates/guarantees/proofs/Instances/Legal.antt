@@ -10,13 +10,13 @@ use borrow.Author.Tests.{eqb-true}
 use Prim.Native.Nat.{ℕ, zero, suc, ◌+◌, ◌≤◌, ◌<◌}
 use lib.Dec.{eqb}
 use lib.ListN.{get_or}
+use Rattle.std.specs.Prelude.{None}
 use Rattle.demand.specs.Limits.{ticks_most}
 use Rattle.demand.specs.Rows.{tasks_of, handlers_of, row_at}
 use Rattle.demand.specs.Tests.{pick}
 use Rattle.machine.specs.Live.{due_of}
 use Rattle.scheduler.specs.Promise.{figures, nobody}
 use Rattle.scheduler.specs.Steps.{step_of}
-use Rattle.scheduler.specs.declared.Late.TheVariants.{Nobody}
 use Rattle.guarantees.specs.LegalArrivals.{Accepted}
 use Rattle.guarantees.specs.LegalOnTime.{OnTimeAt}
 use Rattle.guarantees.specs.Patterns.{rows_in, run_by, LegalPattern}
@@ -94,5 +94,5 @@ last-tick-6 = (on-time-6 999999999 (omega arith)).clock
 pub last-going-6 : (run_by due_of tasks-6 handlers-6 arrivals-6 999999999).over ≡ false
 last-going-6 = (on-time-6 999999999 (omega arith)).going
 
-pub last-late-6 : (run_by due_of tasks-6 handlers-6 arrivals-6 999999999).late ≡ Nobody
+pub last-late-6 : (run_by due_of tasks-6 handlers-6 arrivals-6 999999999).late ≡ None
 last-late-6 = (on-time-6 999999999 (omega arith)).late

@@ -6,6 +6,8 @@ use mathlib.Core.Path.{◌≡◌, refl, ◌∙◌}
 use native.Mathlib.Omega.{arith}
 use Prim.Native.Nat.{ℕ, zero, suc, ◌+◌, ◌≤◌, ◌<◌}
 use lib.ListN.{length, get_or}
+use Rattle.demand.specs.declared.refusal.Refusal.{Refusal}
+use Rattle.std.specs.Prelude.{None, Some, Result, Ok}
 use Rattle.demand.proofs.Refusals.{refusal-in-range}
 use Rattle.demand.specs.Demands.{called}
 use Rattle.demand.specs.Limits.{ticks_most}
@@ -19,8 +21,6 @@ use Rattle.machine.specs.Schedules.{beats}
 use Rattle.priority.specs.Answers as priority
 use Rattle.priority.specs.Asked.{asked_from, asked}
 use Rattle.priority.specs.Responses.{least_to, response, leasts}
-use Rattle.priority.specs.declared.Answer.TheVariants.{Found}
-use Rattle.priority.specs.declared.Profile.{Profile}
 use Rattle.priority.proofs.Answers.{found-says}
 use Rattle.scheduler.specs.Bounds.{out_of_bounds}
 use Rattle.scheduler.specs.Reached.{offered_by}
@@ -28,7 +28,6 @@ use Rattle.scheduler.specs.Scans.{any, first_of, filled, used}
 use Rattle.scheduler.specs.Start.{fresh_of, fresh_run, padded, zeros}
 use Rattle.scheduler.specs.Steps.{step_by, step_tests, step_refusal}
 use Rattle.scheduler.specs.Tick.{next_arrived, due_arrived, owed_arrived, earliest, goes_to, late_row, ticked_by}
-use Rattle.scheduler.specs.declared.Late.TheVariants as late
 use Rattle.verdict.proofs.Facts.Ends.{nothing-fails}
 use Rattle.verdict.proofs.Lightening.{only-fits}
 use Rattle.verdict.specs.Facts.{bound}
@@ -48,8 +47,8 @@ use Rattle.guarantees.proofs.Priority.NeverLate.{never-late-by-priority, on-time
 use Rattle.guarantees.proofs.Priority.Said.{says-length}
 
 -- The answer to a table that is not refused.
-abbrev profile_of : List ℕ → List ℕ → Profile
-profile_of t h = record { answer = Found; least = leasts (tasks_of t) (handlers_of h) }
+abbrev profile_of : List ℕ → List ℕ → Result (List ℕ) Refusal
+profile_of t h = Ok (leasts (tasks_of t) (handlers_of h))
 
 profile-says : (t h : List ℕ) → table_refusal t h ≡ 0 → priority.ResponsesSay t h (profile_of t h)
 profile-says t h e = found-says t h (leasts (tasks_of t) (handlers_of h)) e refl
@@ -128,7 +127,7 @@ again-a = (on-time-a 6 (omega arith)).accepted
 pub last-tick-a : (run_by period_of tasks-a handlers-a arrivals-a 999999999).clock ≡ 999999999
 last-tick-a = (on-time-a 999999999 (omega arith)).clock
 
-pub last-late-a : (run_by period_of tasks-a handlers-a arrivals-a 999999999).late ≡ late.Nobody
+pub last-late-a : (run_by period_of tasks-a handlers-a arrivals-a 999999999).late ≡ None
 last-late-a = (on-time-a 999999999 (omega arith)).late
 
 -- And the verdict is a yes.
@@ -136,7 +135,7 @@ readable-a : verdict_refusal tasks-a handlers-a ≡ 0
 unfolding verdict_refusal first_refusal table_tests some common lcm_from lcm gcd euclid tasks_of handlers_of
 readable-a = refl
 
-pub fits-a : (r : Answer) → VerdictSays tasks-a handlers-a r → (figures r).word ≡ fits
+pub fits-a : (r : Result Answer Refusal) → VerdictSays tasks-a handlers-a r → (figures r).word ≡ fits
 fits-a r says = fits-by-deadline tasks-a handlers-a (profile_of tasks-a handlers-a) r each-a readable-a says
 
 -- ---- tasks 2/5 and 4/7: the second has no length, and the synchronous run by priority is over by 7
@@ -172,7 +171,7 @@ over-b : (sync_run_by period_of tasks-b [] 7).over ≡ true
 unfolding beat_of pattern_to beats offered_by fresh_of fresh_run table_refusal first_refusal table_tests some tasks_of handlers_of padded zeros step_by step_refusal step_tests out_of_bounds any used ticked_by next_arrived due_arrived owed_arrived filled goes_to earliest first_of late_row
 over-b = refl
 
-late-row-b : (sync_run_by period_of tasks-b [] 7).late ≡ late.Task 1
+late-row-b : (sync_run_by period_of tasks-b [] 7).late ≡ Some 1
 unfolding beat_of pattern_to beats offered_by fresh_of fresh_run table_refusal first_refusal table_tests some tasks_of handlers_of padded zeros step_by step_refusal step_tests out_of_bounds any used ticked_by next_arrived due_arrived owed_arrived filled goes_to earliest first_of late_row
 late-row-b = refl
 
@@ -189,7 +188,7 @@ bound-b : bound (tasks_of tasks-b) (handlers_of []) ≡ 0
 unfolding bound costs slack total common lcm_from lcm gcd euclid tasks_of handlers_of
 bound-b = refl
 
-pub fits-b : (r : Answer) → VerdictSays tasks-b [] r → (figures r).word ≡ fits
+pub fits-b : (r : Result Answer Refusal) → VerdictSays tasks-b [] r → (figures r).word ≡ fits
 unfolding VerdictSays
 fits-b r says =
     only-fits tasks-b [] (figures r) readable-b

@@ -5,6 +5,7 @@ use mathlib.Core.Path.{◌≡◌, refl}
 use native.Mathlib.Omega.{arith}
 use Prim.Native.Nat.{ℕ, zero, suc, ◌≤◌, ◌<◌}
 use lib.ListN.{get_or}
+use Rattle.std.specs.Prelude.{None, Ok}
 use Rattle.demand.specs.Refusals.{table_refusal, table_tests}
 use Rattle.demand.specs.Rows.{some, tasks_of, handlers_of}
 use Rattle.demand.specs.Tests.{first_refusal}
@@ -17,13 +18,12 @@ use Rattle.scheduler.specs.Scans.{any, first_of, filled, used}
 use Rattle.scheduler.specs.Start.{padded, zeros, fresh_run, fresh_of}
 use Rattle.scheduler.specs.Steps.{step_tests, step_refusal, step_by, step_of}
 use Rattle.scheduler.specs.Tick.{next_arrived, due_arrived, owed_arrived, GoesTo, earliest, goes_to, late_row, ticked_by, owed_with, key_in}
-use Rattle.scheduler.specs.declared.Answer.TheVariants.{Ticked}
 use Rattle.scheduler.specs.declared.Fresh.{Fresh}
-use Rattle.scheduler.specs.declared.Late.TheVariants.{Nobody}
 use Rattle.scheduler.specs.declared.Ran.{Ran}
 use Rattle.scheduler.specs.declared.Ran.TheVariants.{Task}
 use Rattle.scheduler.specs.declared.Run.{Run}
 use Rattle.scheduler.specs.declared.Stepped.{Stepped}
+use Rattle.scheduler.specs.declared.Ticked.{Ticked}
 use Rattle.scheduler.proofs.Promise.{fresh-says, step-says, fresh-unique, step-unique}
 use Rattle.scheduler.proofs.Reached.{always-in-bounds}
 use Rattle.scheduler.proofs.Rule.{tick-rule, only_one}
@@ -81,7 +81,10 @@ run-8 = (fresh_of (1 ∷ 8 ∷ 8 ∷ 1 ∷ 4 ∷ 4 ∷ []) []).run
 abbrev both : List ℕ
 both = 1 ∷ 1 ∷ []
 
-goes-to-1 : (step_of run-8 both).answer ≡ Ticked (Task 1) Nobody
+abbrev ran-1 : Ticked
+ran-1 = record { ran = Task 1; late = None }
+
+goes-to-1 : (step_of run-8 both).answer ≡ Ok ran-1
 unfolding fresh_of fresh_run table_refusal first_refusal table_tests some tasks_of handlers_of padded zeros step_by step_refusal step_tests out_of_bounds any used ticked_by next_arrived due_arrived owed_arrived filled goes_to earliest first_of late_row
 goes-to-1 = refl
 
@@ -90,7 +93,7 @@ GoesThere ran = GoesTo (key_in due_of run-8 both) (owed_with run-8 both) 2 0 ran
 
 rule-8 : GoesThere (Task 1)
 unfolding fresh_of fresh_run table_refusal first_refusal table_tests some tasks_of handlers_of
-rule-8 = tick-rule due_of run-8 both (Task 1) Nobody goes-to-1
+rule-8 = tick-rule due_of run-8 both ran-1 goes-to-1
 
 keys-8 : key_in due_of run-8 both 0 ∷ key_in due_of run-8 both 1 ∷ [] ≡ 8 ∷ 4 ∷ []
 unfolding fresh_of fresh_run table_refusal first_refusal table_tests some tasks_of handlers_of padded zeros next_arrived due_arrived owed_arrived filled
@@ -113,7 +116,7 @@ not-to-0 other = let same : Task 1 ≡ Task 0 = only_one _ _ 2 0 (Task 1) (Task 
 pub in-bounds-13 : InBounds (offered offers-13 (fresh_of tasks-9 handlers-9).run)
 in-bounds-13 = (always-in-bounds due_of tasks-9 handlers-9 ready-9 offers-13).in_bounds
 
-clock-past : out_of_bounds (run_of (padded 192 (2 ∷ 5 ∷ 5 ∷ [])) (zeros 32) 1 0 1000000001 (zeros 80) (zeros 64) (zeros 80) false Nobody) ≡ true
+clock-past : out_of_bounds (run_of (padded 192 (2 ∷ 5 ∷ 5 ∷ [])) (zeros 32) 1 0 1000000001 (zeros 80) (zeros 64) (zeros 80) false None) ≡ true
 unfolding out_of_bounds tasks_of handlers_of padded zeros any used first_of late_row
 clock-past = refl
 

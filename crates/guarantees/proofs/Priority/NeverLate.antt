@@ -4,6 +4,7 @@ use mathlib.Core.Bool.{false}
 use mathlib.Core.List.{List, [], ◌∷◌}
 use mathlib.Core.Path.{◌≡◌, sym, ap, subst, ◌∙◌}
 use Prim.Native.Nat.{ℕ}
+use Rattle.std.specs.Prelude.{Ok}
 use Rattle.demand.proofs.Inside.Sizes.{tasks-valid, handlers-positive}
 use Rattle.demand.specs.Refusals.{table_refusal}
 use Rattle.demand.specs.Rows.{Row, Positive, Valid, tasks_of, handlers_of}
@@ -16,7 +17,6 @@ use Rattle.guarantees.specs.Priority.{NeverLateByPriority, OnTimeByPriority, Fit
 use Rattle.scheduler.specs.Reached.{offered_by, WellMade}
 use Rattle.machine.specs.Machine.{sync_by}
 use Rattle.scheduler.specs.Start.{fresh_run, fresh_of}
-use Rattle.scheduler.specs.declared.Start.TheVariants.{Ready}
 use Rattle.scheduler.proofs.Steps.Tables.{fresh-ready}
 use Rattle.guarantees.proofs.LegalOnTime.{on-time-by}
 use Rattle.guarantees.proofs.Priority.Said.{says-table, says-responds}
@@ -86,7 +86,7 @@ never-late-by-priority t h p each = never-over t h (says-table t h p each.says e
 pub on-time-by-priority : OnTimeByPriority
 on-time-by-priority t h p each arrivals legal n soon =
     let e : table_refusal t h ≡ 0 = says-table t h p each.says each.accepted in
-    let answer : (fresh_of t h).answer ≡ Ready = ap (λ x. x.answer) (fresh-ready t h e) in
+    let answer : (fresh_of t h).answer ≡ Ok tt = ap (λ x. x.answer) (fresh-ready t h e) in
     on-time-by period_of t h answer (never-late-by-priority t h p each) arrivals legal n soon
 
 -- The synchronous run by priority is a schedule that meets every deadline for ever.

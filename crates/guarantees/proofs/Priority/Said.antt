@@ -4,17 +4,18 @@ use mathlib.Core.Path.{◌≡◌, sym, ap, ◌∙◌}
 use native.Mathlib.Omega.{arith}
 use Prim.Native.Nat.{ℕ, ◌<◌}
 use lib.ListN.{length, get_or}
+use Rattle.demand.specs.declared.refusal.Refusal.{Refusal}
+use Rattle.std.specs.Prelude.{Result}
 use Rattle.demand.specs.Limits.{tasks_most}
 use Rattle.demand.specs.Refusals.{table_refusal}
 use Rattle.demand.specs.Rows.{tasks_of, handlers_of}
 use Rattle.demand.proofs.Refusals.{refusal-in-range}
 use Rattle.priority.specs.Answers as priority
 use Rattle.priority.specs.Responses.{response, leasts, Responds}
-use Rattle.priority.specs.declared.Profile.{Profile}
 use Rattle.priority.proofs.Inside.Search.{listed_at}
 use Rattle.guarantees.specs.Priority.{length_of, EachResponds}
 
-module _ (t h : List ℕ) (p : Profile) (says : priority.ResponsesSay t h p) (accepted : (priority.figures p).code ≡ 0) where
+module _ (t h : List ℕ) (p : Result (List ℕ) Refusal) (says : priority.ResponsesSay t h p) (accepted : (priority.figures p).code ≡ 0) where
   -- It is not refused,
   pub says-table : table_refusal t h ≡ 0
   unfolding priority.figures_by
@@ -29,5 +30,5 @@ module _ (t h : List ℕ) (p : Profile) (says : priority.ResponsesSay t h p) (ac
       let few : i < tasks_most = omega (arith, (refusal-in-range t h says-table).tasks-most) in
       ap (λ (ls : List ℕ). get_or ls i 0) least ∙ listed_at (response (tasks_of t) (handlers_of h)) tasks_most i few
 
-pub says-responds : (t h : List ℕ) (p : Profile) → EachResponds t h p → Responds (tasks_of t) (handlers_of h)
+pub says-responds : (t h : List ℕ) (p : Result (List ℕ) Refusal) → EachResponds t h p → Responds (tasks_of t) (handlers_of h)
 says-responds t h p each i place = omega (arith, each.each i place, says-length t h p each.says each.accepted i place)

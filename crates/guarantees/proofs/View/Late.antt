@@ -7,6 +7,7 @@ use borrow.Author.Tests.{ltb-true, ltb-false, eqb-true}
 use Prim.Native.Nat.{ℕ, ◌<◌}
 use lib.Dec.{ltb, eqb}
 use lib.ListN.{get_or}
+use Rattle.std.specs.Prelude.{None, Some}
 use Rattle.machine.specs.Live.{OnTime}
 use Rattle.machine.specs.Inside.Listed.{Listed}
 use Rattle.scheduler.specs.Reached.{WellMade}
@@ -14,7 +15,6 @@ use Rattle.scheduler.specs.Runs.{task_rows}
 use Rattle.scheduler.specs.Scans.{at}
 use Rattle.scheduler.specs.Tick.{is_late, late_row, is_task}
 use Rattle.guarantees.specs.View.{part, view_of}
-use Rattle.scheduler.specs.declared.Late.TheVariants as late
 use Rattle.scheduler.specs.declared.Run.{Run}
 use Rattle.machine.proofs.FlatArrive.{on-time-flat}
 use Rattle.machine.proofs.FlatFacts.{flat-on-time}
@@ -41,7 +41,7 @@ unfolding late_row
 named-late clock due owed n e = go (find (is_late clock due owed) n)
   where
     go : Found (is_late clock due owed) n → LateTask clock due owed n
-    go (nowhere none) = absurd (false≢true (sym (ap is_task (first-none (is_late clock due owed) late.Task n late.Nobody none)) ∙ e))
+    go (nowhere none) = absurd (false≢true (sym (ap is_task (first-none (is_late clock due owed) Some n None none)) ∙ e))
     go (first i l q none) =
         let tests = both (ltb 0 (get_or owed i 0)) (eqb (due i) clock) q in
         record { row = i; within = l; work = ltb-true _ _ tests.0; now = eqb-true _ _ tests.1 }

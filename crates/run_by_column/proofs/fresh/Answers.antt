@@ -1,13 +1,7 @@
-use Rattle.columns.proofs.Lent.{held-counted, from-rows, from-counts}
+use Rattle.columns.proofs.Lent.{from-rows, from-counts}
 use Rattle.scheduler.specs.Promise.{FreshSays}
 use Rattle.run_by_column.proofs.Alike.{fresh-alike}
 use Rattle.run_by_column.proofs.fresh.Goals as goal
-
-pub as_slice-requires : goal.as_slice-requires
-as_slice-requires c = (held-counted _ _ _ c.in-Some.ensures).0.0
-
-pub as_slice-requires-in-Some : goal.as_slice-requires-in-Some
-as_slice-requires-in-Some c = (held-counted _ _ _ c.in-Some.ensures).1.0
 
 pub returns-in-Some : goal.returns-in-Some
 returns-in-Some c =

@@ -12,6 +12,8 @@ use lib.Seq.{drop_at}
 use Rattle.demand.proofs.Divide.{le-or-lt}
 use Rattle.demand.proofs.Inside.Places.{rows_append, each_at}
 use Rattle.demand.proofs.Refusals.{row_inside, deadline-inside}
+use Rattle.std.specs.Prelude.{Ok, Err}
+use Rattle.demand.specs.Numbered.{refusal_at}
 use Rattle.demand.specs.Limits.{tasks_most, handlers_most}
 use Rattle.demand.specs.Refusals.{table_refusal, FairRow}
 use Rattle.demand.specs.Rows.{Row, rows_of, width, tasks_of, handlers_of, row_at, no_row, Sound}
@@ -22,10 +24,9 @@ use Rattle.scheduler.specs.Runs.{row_in, row_count, Shaped, task_numbers, handle
 use Rattle.scheduler.specs.Scans.{used}
 use Rattle.scheduler.specs.Start.{padded, zeros, fresh_run, fresh_of}
 use Rattle.scheduler.specs.declared.Fresh.{Fresh}
-use Rattle.scheduler.specs.declared.Start.TheVariants.{Ready, Refused}
 use Rattle.scheduler.proofs.Steps.Clauses.{in_bounds}
 use Rattle.scheduler.proofs.Steps.Scan.{any_false}
-use Rattle.scheduler.proofs.Steps.Tables.{Whole, whole, drop-replicate, tasks-fit, handlers-fit, fresh-ready, fresh-refused}
+use Rattle.scheduler.proofs.Steps.Tables.{Whole, whole, drop-replicate, tasks-fit, handlers-fit, fresh-ready, fresh-refused, table-known}
 
 -- ---- zeros
 
@@ -152,15 +153,15 @@ module _ (t h : List ℕ) (e : table_refusal t h ≡ 0) where
   }
 
 -- A fresh run that is ready is that of a table without a refusal.
-pub ready : (t h : List ℕ) → (fresh_of t h).answer ≡ Ready → table_refusal t h ≡ 0
+pub ready : (t h : List ℕ) → (fresh_of t h).answer ≡ Ok tt → table_refusal t h ≡ 0
 ready t h e = go (eqb (table_refusal t h) 0) refl
   where
     go : (b : Bool) → eqb (table_refusal t h) 0 ≡ b → table_refusal t h ≡ 0
     go true q = eqb-true (table_refusal t h) 0 q
     go false q =
-        let refused = fresh-refused t h (table_refusal t h) refl (eqb-false (table_refusal t h) 0 q) in
-        let same : Refused (table_refusal t h) ≡ Ready = sym (ap (λ (x : Fresh). x.answer) refused) ∙ e in
+        let refused = fresh-refused t h (refusal_at (table_refusal t h)) (table-known t h (eqb-false (table_refusal t h) 0 q)) in
+        let same : Err (refusal_at (table_refusal t h)) ≡ Ok tt = sym (ap (λ (x : Fresh). x.answer) refused) ∙ e in
         absurd (let z : ◌≡◌ {A = ℕ} 0 1 = cc in omega arith)
 
-pub ready-run : (t h : List ℕ) → (fresh_of t h).answer ≡ Ready → (fresh_of t h).run ≡ fresh_run t h
+pub ready-run : (t h : List ℕ) → (fresh_of t h).answer ≡ Ok tt → (fresh_of t h).run ≡ fresh_run t h
 ready-run t h e = ap (λ (x : Fresh). x.run) (fresh-ready t h (ready t h e))

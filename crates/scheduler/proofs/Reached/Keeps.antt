@@ -9,11 +9,10 @@ use Prim.Native.Nat.{ℕ, ◌+◌, ◌-◌, ◌≤◌, ◌<◌}
 use lib.Dec.{ltb, eqb}
 use lib.ListN.{length, get_or, drop, length-set}
 use lib.Seq.{drop-set-lt, get_or-set_same, get_or-set_other, set_out}
+use Rattle.std.specs.Prelude.{Option, None, Some}
 use Rattle.demand.specs.Rows.{Row}
 use Rattle.scheduler.specs.Bounds.{passed, names}
 use Rattle.scheduler.specs.Tick.{ahead, next_after, GoesTo, less, paid, is_late, late_row, is_task}
-use Rattle.scheduler.specs.declared.Late.{Late}
-use Rattle.scheduler.specs.declared.Late.TheVariants as late
 use Rattle.scheduler.specs.declared.Ran.{Ran}
 use Rattle.scheduler.specs.declared.Ran.TheVariants.{Handler, Task, Idle}
 use Rattle.scheduler.proofs.Steps.Scan.{any_at, first-here, Found, find}
@@ -72,13 +71,13 @@ paid-drop key owed n m Idle g = refl
 
 -- ---- who is late
 
-pub names_same : (l : Late) → (is_task l && not (names l l)) ≡ false
-names_same late.Nobody = refl
-names_same (late.Task i) = rw (eq-eqb i i refl)
+pub names_same : (l : Option ℕ) → (is_task l && not (names l l)) ≡ false
+names_same None = refl
+names_same (Some i) = rw (eq-eqb i i refl)
 
-pub not_named : (l : Late) → (not (is_task l) && is_task l) ≡ false
-not_named late.Nobody = refl
-not_named (late.Task i) = refl
+pub not_named : (l : Option ℕ) → (not (is_task l) && is_task l) ≡ false
+not_named None = refl
+not_named (Some i) = refl
 
 -- Nobody is named: no task is late.
 pub nobody-late : (clock : ℕ) (due : ℕ → ℕ) (owed : List ℕ) (n k : ℕ) → is_task (late_row clock due owed n) ≡ false → k < n → 0 < get_or owed k 0 → due k ≡ clock → ⊥
@@ -86,7 +85,7 @@ unfolding late_row
 nobody-late clock due owed n k e l w same = go (find (is_late clock due owed) n)
   where
     go : Found (is_late clock due owed) n → ⊥
-    go (first i m q none) = false≢true (sym e ∙ ap is_task (first-here (is_late clock due owed) late.Task i n late.Nobody none q m))
+    go (first i m q none) = false≢true (sym e ∙ ap is_task (first-here (is_late clock due owed) Some i n None none q m))
     go (nowhere none) = false≢true (sym (any_at (is_late clock due owed) n k none l) ∙ rw (lt-ltb 0 (get_or owed k 0) w, eq-eqb (due k) clock same))
 
 -- A task owed work is not past its deadline, where that lies ahead or, in a run that is over, is now.

@@ -11,8 +11,12 @@ use borrow.Author.Tests.{eqb-true, eqb-false, eq-eqb, ne_eqb, not-false}
 use Prim.Native.Nat.{ℕ, ◌≤◌, ◌<◌}
 use lib.Dec.{eqb}
 use lib.ListN.{length}
+use Rattle.std.specs.Prelude.{Err}
 use Rattle.demand.proofs.Chains.{first-at, first-none, none_first}
+use Rattle.demand.proofs.Numbered.{refusal_at-number, number-pos}
 use Rattle.demand.specs.Limits.{ticks_most}
+use Rattle.demand.specs.Numbered.{number_of, refusal_at}
+use Rattle.demand.specs.declared.refusal.Refusal.{Refusal}
 use Rattle.scheduler.specs.Bounds.{out_of_bounds, InBounds}
 use Rattle.machine.specs.Live.{Live}
 use Rattle.scheduler.specs.Runs.{row_in, row_count}
@@ -20,6 +24,7 @@ use Rattle.scheduler.specs.Scans.{any}
 use Rattle.scheduler.specs.Steps.{early, heavy, step_tests, step_refusal, refused, step_by}
 use Rattle.scheduler.specs.Tick.{ticked_by}
 use Rattle.scheduler.specs.declared.Run.{Run}
+use Rattle.scheduler.proofs.Steps.Known.{first-known}
 use Rattle.scheduler.proofs.Steps.Clauses.{clauses, clauses-clock}
 
 pub record Passed (r : Run) (ws : List ℕ) : Type 0 where
@@ -104,6 +109,17 @@ step-ticks key r ws e = simp (eq-eqb _ _ e)
 pub step-refused : (key : Live → ℕ) (r : Run) (ws : List ℕ) (k : ℕ) → k ≡ step_refusal r ws → (k ≡ 0 → ⊥) → step_by key r ws ≡ refused r k
 unfolding step_by
 step-refused key r ws k e n = rw (← e, ne_eqb k 0 n)
+
+-- The refusal of a number is the one that has it.
+pub step-told : (key : Live → ℕ) (r : Run) (ws : List ℕ) (e : Refusal) → number_of e ≡ step_refusal r ws → record { run = r; answer = Err e } ≡ step_by key r ws
+step-told key r ws e n =
+    let some : number_of e ≡ 0 → ⊥ = λ z. omega (arith, number-pos e) in
+    rw (step-refused key r ws (number_of e) n some, refusal_at-number e)
+
+-- Each number of the tests is a refusal's.
+pub step-known : (r : Run) (ws : List ℕ) → (step_refusal r ws ≡ 0 → ⊥) → number_of (refusal_at (step_refusal r ws)) ≡ step_refusal r ws
+unfolding step_refusal step_tests
+step-known r ws = first-known (step_tests r ws) (refl, (refl, (refl, (refl, (refl, (refl, tt))))))
 
 -- A step is refused, or nothing is refused and it is the tick.
 pub data Outcome (key : Live → ℕ) (r : Run) (ws : List ℕ) : Type 0 where

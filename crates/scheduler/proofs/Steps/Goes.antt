@@ -1,5 +1,5 @@
 -- Who gets the tick: the one that the rule names, and no other.
-use mathlib.Core.Bool.{Bool, true, false}
+use mathlib.Core.Bool.{false}
 use mathlib.Core.List.{List}
 use mathlib.Core.Logic.{◌⊎◌, inl, inr}
 use mathlib.Core.Path.{◌≡◌, refl, sym, subst}
@@ -7,6 +7,7 @@ use native.Mathlib.Omega.{arith}
 use borrow.Author.Tests.{ltb-true, ltb-false}
 use Prim.Native.Nat.{ℕ, ◌+◌, ◌≤◌, ◌<◌}
 use lib.ListN.{get_or}
+use Rattle.std.specs.Prelude.{Option, None, Some}
 use Rattle.demand.proofs.Divide.{le-or-lt}
 use Rattle.demand.specs.Limits.{tasks_most, handlers_most}
 use Rattle.scheduler.specs.Scans.{any}
@@ -25,18 +26,16 @@ module _ (key : ℕ → ℕ) (owed : List ℕ) (n m : ℕ) where
   not-owed i j e l = omega (arith, ltb-false 0 (get_or owed (n + j) 0) (any_at (owed_at owed n) i j e l))
 
   -- No handler is owed work: to the task found, if any.
-  to-task : any (owed_at owed n) m ≡ false → (b : Best) → Earliest key owed n b → (f : Bool) → b.found ≡ f → GoesTo key owed n m (to_task b)
+  to-task : any (owed_at owed n) m ≡ false → (b : Option Best) → Earliest key owed n b → GoesTo key owed n m (to_task b)
   unfolding GoesTo
-  to-task none b e true q =
-      rw q
-      (record {
-        no-handler = λ j l. not-owed m j none l;
-        row = e.row q;
-        work = e.work q;
-        earliest = λ j l w. omega (arith, e.key_of q, e.least q j l w);
-        lowest = λ j l w same. omega (arith, e.key_of q, e.lowest q j l w);
-      })
-  to-task none b e false q = rw q (record { no-handler = λ j l. not-owed m j none l; no-task = e.none q })
+  to-task none (Some b) e = record {
+    no-handler = λ j l. not-owed m j none l;
+    row = e.row;
+    work = e.work;
+    earliest = λ j l w. omega (arith, e.key_of, e.least j l w);
+    lowest = λ j l w same. omega (arith, e.key_of, e.lowest j l w);
+  }
+  to-task none None e = record { no-handler = λ j l. not-owed m j none l; no-task = e }
 
   pub goes-to : GoesTo key owed n m (goes_to key owed n m)
   unfolding goes_to
@@ -50,7 +49,7 @@ module _ (key : ℕ → ℕ) (owed : List ℕ) (n m : ℕ) where
           subst (GoesTo key owed n m) (sym (first-here (owed_at owed n) Handler i m tasks e q l))
           (unfold GoesTo in record { row = l; work = ltb-true _ _ q; first = λ j below. not-owed i j e below })
       go (nowhere e) =
-          subst (GoesTo key owed n m) (sym (first-none (owed_at owed n) Handler m tasks e)) (to-task e (earliest key owed n) (earliest-is key owed n) _ refl)
+          subst (GoesTo key owed n m) (sym (first-none (owed_at owed n) Handler m tasks e)) (to-task e (earliest key owed n) (earliest-is key owed n))
 
   -- ---- and no other
 

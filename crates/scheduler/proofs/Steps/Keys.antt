@@ -6,6 +6,7 @@ use native.Mathlib.Omega.{arith}
 use borrow.Author.Tests.{lt-ltb}
 use Prim.Native.Nat.{ℕ, zero, suc, ◌+◌, ◌≤◌, ◌<◌}
 use lib.ListN.{get_or, set, replicate, length-replicate}
+use Rattle.std.specs.Prelude.{Option}
 use Rattle.demand.specs.Limits.{tasks_most}
 use Rattle.demand.specs.Rows.{row_at, tasks_of}
 use Rattle.scheduler.specs.Inside.Keys.{key_of, keys_on, periods_of}
@@ -22,12 +23,12 @@ earliest-same : (f g : ℕ → ℕ) (owed : List ℕ) (n : ℕ) → ((k : ℕ) �
 unfolding earliest
 earliest-same f g owed zero same = refl
 earliest-same f g owed (suc n) same =
-    ap₂ (λ (best : Best) (key : ℕ). better best n (get_or owed n 0) key) (earliest-same f g owed n (λ k l. same k (omega arith))) (same n (omega arith))
+    ap₂ (λ (best : Option Best) (key : ℕ). better best n (get_or owed n 0) key) (earliest-same f g owed n (λ k l. same k (omega arith))) (same n (omega arith))
 
 -- Keys that are equal below n choose the same of n tasks.
 pub goes_same : (f g : ℕ → ℕ) (owed : List ℕ) (n m : ℕ) → ((k : ℕ) → k < n → f k ≡ g k) → goes_to f owed n m ≡ goes_to g owed n m
 unfolding goes_to
-goes_same f g owed n m same = ap (λ (best : Best). first_of (owed_at owed n) ran.Handler m (to_task best)) (earliest-same f g owed n same)
+goes_same f g owed n m same = ap (λ (best : Option Best). first_of (owed_at owed n) ran.Handler m (to_task best)) (earliest-same f g owed n same)
 
 -- The keys that the code has in hand are those of the rows at work.
 pub keys-same : (key : Key) (r : Run) (next due owed : List ℕ)

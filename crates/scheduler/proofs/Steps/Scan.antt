@@ -1,5 +1,5 @@
 -- Laws of scans over places, in the form in which a loop makes its turns.
-use mathlib.Core.Bool.{Bool, true, false, not, ◌||◌, false≢true}
+use mathlib.Core.Bool.{Bool, true, false, ◌||◌, false≢true}
 use mathlib.Core.List.{List}
 use mathlib.Core.Logic.{⊎_elim}
 use mathlib.Core.Path.{◌≡◌, refl, sym, ap, ◌∙◌}
@@ -7,11 +7,10 @@ use native.Mathlib.Nat.{add-zero, add-suc, eq-or-lt_of_le, le_of_suc-le-suc, not
 use native.Mathlib.Numerals.{add-one}
 use native.Mathlib.Omega.{arith}
 use Prim.Native.Nat.{ℕ, zero, suc, ◌+◌, ◌≤◌, ◌<◌}
-use lib.Dec.{eqb}
-use lib.ListN.{length, get_or, set, drop, length-set, drop_of_length-le}
-use lib.Seq.{drop-cons, drop-set-lt, get_or-set_same, get_or-set_other}
+use lib.ListN.{length, get_or, set, drop, length-set}
+use lib.Seq.{drop-set-lt, get_or-set_same, get_or-set_other}
 use Rattle.demand.specs.Tests.{pick}
-use Rattle.scheduler.specs.Scans.{any, first_of, filled, used}
+use Rattle.scheduler.specs.Scans.{any, first_of, filled}
 
 -- What an invariant says at the end of a loop.
 pub at-end : {A : Type 0} (f : ℕ → A) (i n : ℕ) {x : A} → i ≤ n → n ≤ i → x ≡ f i → x ≡ f n
@@ -37,10 +36,6 @@ same_test true true f g = refl
 same_test true false f g = g refl
 same_test false true f g = sym (f refl)
 same_test false false f g = refl
-
-or_swap : (a b c u : Bool) → (a || (b || c)) ≡ u → ((a || b) || c) ≡ u
-or_swap true b c u e = e
-or_swap false b c u e = e
 
 -- ---- any
 
@@ -154,18 +149,3 @@ module _ (f : ℕ → ℕ) where
 
   pub filled-end : (i n : ℕ) (xs ys : List ℕ) → i ≤ n → n ≤ i → ys ≡ filled f i xs → ys ≡ filled f n xs
   filled-end i n xs ys = at-end (λ k. filled f k xs) i n
-
--- ---- used
-
-used-next : (xs : List ℕ) (k : ℕ) → k < length xs → used (drop k xs) ≡ (not (eqb (get_or xs k 0) 0) || used (drop (k + 1) xs))
-unfolding used
-used-next xs k l = rw (add-one, drop-cons xs k 0)
-
-pub used_turn : (xs : List ℕ) (k : ℕ) (bad u : Bool) → k < length xs → (bad || used (drop k xs)) ≡ u
-    → ((bad || not (eqb (get_or xs k 0) 0)) || used (drop (k + 1) xs)) ≡ u
-used_turn xs k bad u l e = or_swap bad _ _ u (rw (← used-next xs k l) e)
-
--- Nothing is left to look at.
-pub used-end : (xs : List ℕ) (k : ℕ) (bad u : Bool) → length xs ≤ k → (bad || used (drop k xs)) ≡ u → bad ≡ u
-unfolding used
-used-end xs k bad u l e = or-false bad ∙ (rw (drop_of_length-le xs l) at e)

@@ -6,14 +6,13 @@
 --   heavy_task, heavy_handler   == refusal 11, of task k and of handler i
 --   used_past ..               == a place past the last row of these lists isn't 0
 --   late_out over late first   == the late row is not that of the first late task, or is named where the run is not over
-use Rattle.std.specs.Prelude.{Bool, not, ◌&&◌, ◌||◌, List, ℕ, ◌+◌, ◌*◌, ltb, get_or, drop}
+use Rattle.std.specs.Prelude.{Bool, not, ◌&&◌, ◌||◌, List, Option, ℕ, ◌+◌, ◌*◌, ltb, get_or, drop}
 use Rattle.demand.specs.Refusals.{row_outside, deadline_outside}
 use Rattle.demand.specs.Rows.{Row, tasks_of, handlers_of, row_at}
 use Rattle.demand.specs.Tests.{pick}
 use Rattle.scheduler.specs.Bounds.{names}
 use Rattle.scheduler.specs.Scans.{used}
 use Rattle.scheduler.specs.Tick.{is_task}
-use Rattle.scheduler.specs.declared.Late.{Late}
 
 abbrev pub earliest_due : Bool → ℕ → ℕ
 earliest_due over clock = pick over clock (clock + 1)
@@ -50,7 +49,7 @@ used_past t h next due owed n m =
     || used (drop n due)
     || used (drop (n + m) owed)
 
-abbrev pub late_out : Bool → Late → Late → Bool
+abbrev pub late_out : Bool → Option ℕ → Option ℕ → Bool
 late_out over late first = (over && not (names late first)) || (not over && is_task late)
 
 abbrev pub heavy_task : List ℕ → List ℕ → ℕ → Bool

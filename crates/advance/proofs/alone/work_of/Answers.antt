@@ -7,17 +7,17 @@ use Rattle.advance.proofs.alone.work_of.Goals as goal
 pub overflow_add-result : goal.overflow_add-result
 overflow_add-result c = let l = handler-placed _ _ c.requires.1 c.in-Handler.is in omega arith
 
-pub offset_bounds-owed-n : goal.offset_bounds-owed-n
-offset_bounds-owed-n c = let l = handler-placed _ _ c.requires.1 c.in-Handler.is in omega arith
+pub offset_bounds-run-run : goal.offset_bounds-run-run
+offset_bounds-run-run c = let l = handler-placed _ _ c.requires.1 c.in-Handler.is in omega arith
 
-pub bounds-owed-n : goal.bounds-owed-n
-bounds-owed-n c = let l = handler-placed _ _ c.requires.1 c.in-Handler.is in omega arith
+pub bounds-run-run : goal.bounds-run-run
+bounds-run-run c = let l = handler-placed _ _ c.requires.1 c.in-Handler.is in omega arith
 
-pub offset_bounds-owed-row : goal.offset_bounds-owed-row
-offset_bounds-owed-row c = let l = task-placed _ _ c.requires.1 c.in-Task.is in omega arith
+pub offset_bounds-run-row : goal.offset_bounds-run-row
+offset_bounds-run-row c = let l = task-placed _ _ c.requires.1 c.in-Task.is in omega arith
 
-pub bounds-owed-row : goal.bounds-owed-row
-bounds-owed-row c = let l = task-placed _ _ c.requires.1 c.in-Task.is in omega arith
+pub bounds-run-row : goal.bounds-run-row
+bounds-run-row c = let l = task-placed _ _ c.requires.1 c.in-Task.is in omega arith
 
 pub returns-in-Handler : goal.returns-in-Handler
 returns-in-Handler c = sym (ap (work_of _ _) c.in-Handler.is)

@@ -1,4 +1,4 @@
 use Rattle.harness.proofs.numbers.run_in.Goals as goal
 
 pub returns : goal.returns
-returns c = simp (c.late_of-late.ensures, c.over_of.ensures)
+returns c = simp (c.late_of.ensures, c.over_of.ensures)

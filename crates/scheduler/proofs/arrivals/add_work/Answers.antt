@@ -6,14 +6,14 @@ use Rattle.scheduler.proofs.Steps.Scan.{filled_zero, filled-old, filled-turn, fi
 use Rattle.scheduler.proofs.arrivals.add_work.Goals as goal
 
 pub loop-k-init : goal.loop-k-init
-loop-k-init c = (search rules, sym (filled_zero _ _))
+loop-k-init c = sym (filled_zero _ _)
 
 pub overflow_add-owed : goal.overflow_add-owed
-overflow_add-owed c = omega (arith, filled-old _ _ _ _ c.loop-k.invariant.1, c.requires.1 c.loop-k.k c.loop-k-test.true, c.wide-w.ensures.1)
+overflow_add-owed c = omega (arith, filled-old _ _ _ _ c.loop-k.invariant, c.requires.1 c.loop-k.k c.loop-k-test.true, c.from.ensures)
 
 pub loop-k-preserved : goal.loop-k-preserved
-loop-k-preserved c = (search rules, filled-turn _ _ _ _ _ c.loop-k.invariant.1 (rw (c.wide-w.ensures.0, filled-old _ _ _ _ c.loop-k.invariant.1)))
+loop-k-preserved c = filled-turn _ _ _ _ _ c.loop-k.invariant (rw (c.from.ensures, filled-old _ _ _ _ c.loop-k.invariant))
 
 pub returns : goal.returns
 unfolding owed_arrived
-returns c = filled-end _ _ _ _ _ c.loop-k.invariant.0 c.loop-k-test.false c.loop-k.invariant.1
+returns c = filled-end _ _ _ _ _ (search rules) c.loop-k-test.false c.loop-k.invariant

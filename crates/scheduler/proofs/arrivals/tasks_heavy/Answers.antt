@@ -1,15 +1,10 @@
 use mathlib.Core.Path.{sym, ap}
-use borrow.Author.Rules.{rules}
 use Rattle.demand.specs.Rows.{Row}
-use Rattle.scheduler.specs.Scans.{any}
-use Rattle.scheduler.proofs.Steps.Scan.{at-end, any-zero, any-turn}
+use Rattle.scheduler.proofs.Steps.Scan.{any-zero, any-turn}
 use Rattle.scheduler.proofs.arrivals.tasks_heavy.Goals as goal
 
 pub loop-k-init : goal.loop-k-init
-loop-k-init c = (search rules, sym (any-zero _))
+loop-k-init c = sym (any-zero _)
 
 pub loop-k-preserved : goal.loop-k-preserved
-loop-k-preserved c = (search rules, any-turn _ _ _ _ c.loop-k.invariant.1 (simp (c.wide-w.ensures.0, ap (λ (r : Row). r.cost) c.row_of-row.ensures)))
-
-pub returns : goal.returns
-returns c = at-end (any _) _ _ c.loop-k.invariant.0 c.loop-k-test.false c.loop-k.invariant.1
+loop-k-preserved c = any-turn _ _ _ _ c.loop-k.invariant (simp (c.from.ensures, ap (λ (r : Row). r.cost) c.task-row.ensures))

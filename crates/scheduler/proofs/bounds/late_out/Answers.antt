@@ -1,5 +1,5 @@
 use Rattle.scheduler.proofs.Steps.Scan.{or-false}
 use Rattle.scheduler.proofs.bounds.late_out.Goals as goal
 
-pub returns-then-over : goal.returns-then-over
-returns-then-over c = simp (c.if-over.true, c.names.ensures, c.late_row-first.ensures) (or-false _)
+pub returns-then-run : goal.returns-then-run
+returns-then-run c = simp (c.if-run.true, c.names.ensures, c.late_row.ensures) (or-false _)

@@ -11,8 +11,8 @@ returns-in-Deadline c = rw c.in-Deadline.is c.goes_to.ensures
 
 pub returns-in-Period : goal.returns-in-Period
 returns-in-Period c =
-    let x = c.args in
+    let run = c.args.run.now in
     rw c.in-Period.is
     (c.goes_to-in-Period.ensures
-    ∙ ap (λ (ps : List ℕ). goes_to (at ps) x.owed.now x.n x.m) c.periods-periods.ensures
-    ∙ periods-keys x.tasks.now x.due.now x.owed.now x.n x.m c.requires.0)
+    ∙ ap (λ (ps : List ℕ). goes_to (at ps) run.owed run.task_count run.handler_count) c.periods.ensures
+    ∙ periods-keys run.tasks run.due run.owed run.task_count run.handler_count c.requires.tasks)

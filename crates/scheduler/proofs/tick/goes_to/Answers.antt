@@ -7,19 +7,19 @@ use Rattle.scheduler.proofs.Steps.Scan.{any-zero, any-skip, first-none, first-he
 use Rattle.scheduler.proofs.tick.goes_to.Goals as goal
 
 pub loop-i-init : goal.loop-i-init
-loop-i-init c = (search rules, any-zero _)
+loop-i-init c = any-zero _
 
-pub returns-then-owed-k-gt0 : goal.returns-then-owed-k-gt0
+pub returns-then-run-n-gt0 : goal.returns-then-run-n-gt0
 unfolding goes_to
-returns-then-owed-k-gt0 c = sym (first-here _ _ _ _ _ c.loop-i.invariant.1 (lt-ltb _ _ c.if-owed-k-gt0.true) (search rules))
+returns-then-run-n-gt0 c = sym (first-here _ _ _ _ _ c.loop-i.invariant (lt-ltb _ _ c.if-run-n-gt0.true) (search rules))
 
 pub loop-i-preserved : goal.loop-i-preserved
-loop-i-preserved c = (search rules, any-skip _ _ c.loop-i.invariant.1 (le-ltb _ _ c.if-owed-k-gt0.false))
+loop-i-preserved c = any-skip _ _ c.loop-i.invariant (le-ltb _ _ c.if-run-n-gt0.false)
 
-pub returns-then-best : goal.returns-then-best
+pub returns-in-Some : goal.returns-in-Some
 unfolding goes_to
-returns-then-best c = rw (first-none _ _ _ _ (sym (at-end (any _) _ _ c.loop-i.invariant.0 c.loop-i-test.false (sym c.loop-i.invariant.1))), ← c.earliest-best.ensures, c.if-best.true)
+returns-in-Some c = rw (first-none _ _ _ _ (sym (at-end (any _) _ _ (search rules) c.loop-i-test.false (sym c.loop-i.invariant))), ← c.earliest.ensures, c.in-Some.is)
 
-pub returns-else-best : goal.returns-else-best
+pub returns-in-None : goal.returns-in-None
 unfolding goes_to
-returns-else-best c = rw (first-none _ _ _ _ (sym (at-end (any _) _ _ c.loop-i.invariant.0 c.loop-i-test.false (sym c.loop-i.invariant.1))), ← c.earliest-best.ensures, c.if-best.false)
+returns-in-None c = rw (first-none _ _ _ _ (sym (at-end (any _) _ _ (search rules) c.loop-i-test.false (sym c.loop-i.invariant))), ← c.earliest.ensures, c.in-None.is)

@@ -4,35 +4,29 @@ use Rattle.scheduler.specs.Tick.{paid}
 use Rattle.scheduler.proofs.Steps.Goes.{handler-pays, task-pays}
 use Rattle.scheduler.proofs.tick.pay.Goals as goal
 
-pub overflow_add-k : goal.overflow_add-k
-overflow_add-k c = let pays = handler-pays _ _ _ _ c.requires.1 c.in-Handler.is in omega arith
-
-pub offset_bounds-owed-k : goal.offset_bounds-owed-k
-offset_bounds-owed-k c = let pays = handler-pays _ _ _ _ c.requires.1 c.in-Handler.is in omega arith
-
-pub bounds-owed-k : goal.bounds-owed-k
-bounds-owed-k c = let pays = handler-pays _ _ _ _ c.requires.1 c.in-Handler.is in omega arith
+pub overflow_add-owed : goal.overflow_add-owed
+overflow_add-owed c = let pays = handler-pays _ _ _ _ c.requires.1 c.in-Handler.is in omega arith
 
 pub overflow_sub-owed : goal.overflow_sub-owed
 overflow_sub-owed c = let pays = handler-pays _ _ _ _ c.requires.1 c.in-Handler.is in omega arith
 
-pub offset_bounds-owed-k-in-Handler : goal.offset_bounds-owed-k-in-Handler
-offset_bounds-owed-k-in-Handler c = let pays = handler-pays _ _ _ _ c.requires.1 c.in-Handler.is in omega arith
+pub offset_bounds-owed-n : goal.offset_bounds-owed-n
+offset_bounds-owed-n c = let pays = handler-pays _ _ _ _ c.requires.1 c.in-Handler.is in omega arith
 
-pub bounds-owed-k-in-Handler : goal.bounds-owed-k-in-Handler
-bounds-owed-k-in-Handler c = let pays = handler-pays _ _ _ _ c.requires.1 c.in-Handler.is in omega arith
+pub bounds-owed-n : goal.bounds-owed-n
+bounds-owed-n c = let pays = handler-pays _ _ _ _ c.requires.1 c.in-Handler.is in omega arith
+
+pub bounds-owed-n-in-Handler : goal.bounds-owed-n-in-Handler
+bounds-owed-n-in-Handler c = let pays = handler-pays _ _ _ _ c.requires.1 c.in-Handler.is in omega arith
+
+pub overflow_sub-owed-in-Task : goal.overflow_sub-owed-in-Task
+overflow_sub-owed-in-Task c = let pays = task-pays _ _ _ _ c.requires.1 c.in-Task.is in omega arith
 
 pub offset_bounds-owed-row : goal.offset_bounds-owed-row
 offset_bounds-owed-row c = let pays = task-pays _ _ _ _ c.requires.1 c.in-Task.is in omega arith
 
 pub bounds-owed-row : goal.bounds-owed-row
 bounds-owed-row c = let pays = task-pays _ _ _ _ c.requires.1 c.in-Task.is in omega arith
-
-pub overflow_sub-owed-in-Task : goal.overflow_sub-owed-in-Task
-overflow_sub-owed-in-Task c = let pays = task-pays _ _ _ _ c.requires.1 c.in-Task.is in omega arith
-
-pub offset_bounds-owed-row-in-Task : goal.offset_bounds-owed-row-in-Task
-offset_bounds-owed-row-in-Task c = let pays = task-pays _ _ _ _ c.requires.1 c.in-Task.is in omega arith
 
 pub bounds-owed-row-in-Task : goal.bounds-owed-row-in-Task
 bounds-owed-row-in-Task c = let pays = task-pays _ _ _ _ c.requires.1 c.in-Task.is in omega arith

@@ -1,4 +1,3 @@
-use mathlib.Core.Path.{◌∙◌}
 use native.Mathlib.Omega.{arith}
 use Rattle.scheduler.proofs.Steps.Answers.{passed}
 use Rattle.scheduler.proofs.Steps.Clauses.{clauses, clauses-fit, clauses-table, clauses-clock, clauses-owed}
@@ -27,27 +26,22 @@ add_work-requires c =
 
 pub chosen-ran-requires : goal.chosen-ran-requires
 chosen-ran-requires c =
-    let fit = clauses-fit _ (clauses _ (passed _ _ c.requires).in_bounds) in
-    (fit.tasks, fit.handlers)
+    clauses-fit _ (clauses _ (passed _ _ c.requires).in_bounds)
 
 pub pay-requires : goal.pay-requires
 pay-requires c =
     let fit = clauses-fit _ (clauses _ (passed _ _ c.requires).in_bounds) in
     (fit.tasks, goes-pays _ _ _ _ fit.tasks fit.handlers _ c.chosen-ran.ensures)
 
-pub overflow_add-clock : goal.overflow_add-clock
-overflow_add-clock c = omega (arith, (passed _ _ c.requires).soon)
+pub overflow_add-after : goal.overflow_add-after
+overflow_add-after c = omega (arith, (passed _ _ c.requires).soon)
 
 pub late_row-late-requires : goal.late_row-late-requires
 late_row-late-requires c = (clauses-fit _ (clauses _ (passed _ _ c.requires).in_bounds)).tasks
 
-pub closed-requires : goal.closed-requires
-closed-requires c = (passed _ _ c.requires).soon
-
 pub returns : goal.returns
 returns c =
-    c.closed.ensures
-    ∙ tick-made c.args.key _ _ _ _ _ _ _ _ _
+    tick-made c.args.key _ _ _ _ _ _ _ _ _
     (passed _ _ c.requires).count
     c.move_next.ensures
     c.move_due.ensures
@@ -55,4 +49,4 @@ returns c =
     c.chosen-ran.ensures
     c.pay.ensures
     c.late_row-late.ensures
-    c.is_task.ensures
+    c.is_some.ensures

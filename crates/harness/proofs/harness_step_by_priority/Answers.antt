@@ -1,0 +1,15 @@
+use Rattle.harness.proofs.Laid.{late-rows}
+use Rattle.harness.proofs.harness_step_by_priority.Goals as goal
+
+pub lay-requires : goal.lay-requires
+lay-requires c = late-rows _ _ _ _ c.step_by_priority.ensures
+
+pub returns : goal.returns
+returns c = record {
+  stepped = c.step_by_priority.result;
+  says = rw (← c.run_in-run.ensures) c.step_by_priority.ensures;
+  next-laid = c.lay.ensures.0;
+  due-laid = c.lay.ensures.1;
+  owed-laid = c.lay.ensures.2;
+  figures-laid = c.lay.ensures.3;
+}
