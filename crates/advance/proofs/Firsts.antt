@@ -39,13 +39,10 @@ module _ (due owed : List ℕ) where
   unfolding first_due
   first_next k = rw add-one
 
-  -- A turn of the loop, and its end.
+  -- A turn of the loop.
   pub first-turn : (k first d : ℕ) → first ≡ first_due due owed k
       → d ≡ nearer first (get_or owed k 0) (get_or due k 0) → d ≡ first_due due owed (k + 1)
   first-turn k first d e f = f ∙ ap (λ (x : ℕ). nearer x (get_or owed k 0) (get_or due k 0)) e ∙ sym (first_next k)
-
-  pub first-end : (k n first : ℕ) → k ≤ n → n ≤ k → first ≡ first_due due owed k → first ≡ first_due due owed n
-  first-end k n first l h e = e ∙ ap (λ (x : ℕ). first_due due owed x) (let same : k ≡ n = omega arith in same)
 
   -- It is not past the last tick, ..
   pub first-most : (n : ℕ) → first_due due owed n ≤ ticks_most

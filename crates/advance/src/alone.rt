@@ -48,7 +48,8 @@ fn lasts(over: bool, clock: u64, left: u64, work: u64, first: u64) -> u64
     left.min(work.min(first.saturating_sub(clock)))
 }
 
-// So many ticks take as many units of the work of the one to whom they go.
+// So many ticks take as many units of the work of the one to whom they go. Apart from `pay` of the scheduler, which would have to lend
+// the inside of a tick to all who use it.
 fn pay_by(owed: &mut [u64; PLACES], n: usize, ran: Ran, ticks: u64)
     requires { (n ≤ tasks_most) × PayableBy owed.old n ran ticks }
     ensures { owed.new ≡ paid_by owed.old n ran ticks }

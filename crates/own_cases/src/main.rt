@@ -2,8 +2,9 @@
 #![tactic(auto)]
 
 use advance::Advanced;
+use demand::refusal::Refusal;
 use own_segments::Answer;
-use scheduler::{Late, Run};
+use scheduler::Run;
 use std::io::Stdout;
 
 fn say(out: Stdout, text: &[u8]) {
@@ -14,53 +15,30 @@ fn number(out: Stdout, n: u64) {
     console::say_number(&out, n);
 }
 
-// One segment, row, from and to, where there is one.
-fn segment(out: Stdout, is: bool, kind: u64, row: u64, from: u64, to: u64) {
-    if !is {
-        return;
-    }
-    if kind == 0 {
-        say(out, b" T");
-    } else {
-        say(out, b" H");
-    }
-    number(out, row);
-    say(out, b":");
-    number(out, from);
-    say(out, b"-");
-    number(out, to);
-}
-
-// The first so many segments of a lent list.
+// The first so many segments of a lent list: kind, row, from and to.
 fn segments(out: Stdout, count: usize, list: &[u64]) {
-    let mut k = 0;
-    let mut i = 0;
-    while 4 <= list.len() - i {
-        segment(
-            out,
-            k < count,
-            list[i],
-            list[i + 1],
-            list[i + 2],
-            list[i + 3],
-        );
-        k += 1;
-        i += 4;
+    for segment in list.chunks_exact(4).take(count) {
+        say(out, if segment[0] == 0 { b" T" } else { b" H" });
+        number(out, segment[1]);
+        say(out, b":");
+        number(out, segment[2]);
+        say(out, b"-");
+        number(out, segment[3]);
     }
 }
 
-fn told(out: Stdout, answer: Answer, list: &[u64]) {
+fn told(out: Stdout, answer: Result<Answer, Refusal>, list: &[u64]) {
     match answer {
-        Answer::Segments { count, end } => {
+        Ok(Answer::Segments { count, end }) => {
             number(out, count as u64);
             say(out, b" segments to clock ");
             number(out, end);
             segments(out, count, list);
         }
-        Answer::TooMany => say(out, b"too many"),
-        Answer::Refused { number: k } => {
+        Ok(Answer::TooMany) => say(out, b"too many"),
+        Err(refusal) => {
             say(out, b"refusal ");
-            number(out, k as u64);
+            number(out, u64::from(refusal.number()));
         }
     }
     say(out, b"\n");
@@ -75,37 +53,28 @@ fn own(out: Stdout, tasks: &[u32], handlers: &[u32], span: u64) {
 fn advanced(out: Stdout, a: Advanced) -> Run {
     number(out, a.ticks);
     say(out, b" ticks, number ");
-    number(out, a.number as u64);
-    let run = a.run;
-    let late = run.late;
-    match late {
-        Late::Nobody => {}
-        Late::Task { row } => {
-            say(out, b", task ");
-            number(out, row as u64);
-            say(out, b" late");
-        }
+    number(out, a.refusal.map_or(0, |r| u64::from(r.number())));
+    if let Some(row) = a.run.late {
+        say(out, b", task ");
+        number(out, row as u64);
+        say(out, b" late");
     }
     say(out, b" at clock ");
-    number(out, run.clock);
+    number(out, a.run.clock);
     say(out, b"\n");
-    run
+    a.run
 }
 
 // Case 9 from a tick with all arrivals: on to the first deadline that is missed, and on from there.
 fn runs(out: Stdout) {
-    let fresh = Run::fresh(&[2u32, 5, 5, 4, 8, 8], &[1u32, 4]);
-    let run = fresh.run;
-    let first = run.step(&[2u32, 4, 1]);
-    let begun = first.run;
+    let fresh = Run::fresh(&[2u32, 5, 5, 4, 8, 8], &[1u32, 4]).run;
+    let begun = fresh.step(&[2u32, 4, 1]).run;
     let a = advanced(out, advance::advance(begun, 0));
     let b = advanced(out, advance::advance(a, 3));
     let c = advanced(out, advance::advance(b, 999999000));
     let d = advanced(out, advance::advance(c, 1000));
-    let late = Run::fresh(&[9u32, 5, 5], &[]);
-    let third = late.run;
-    let second = third.step(&[9u32]);
-    let over = advanced(out, advance::advance(second.run, 10));
+    let late = Run::fresh(&[9u32, 5, 5], &[]).run.step(&[9u32]).run;
+    let over = advanced(out, advance::advance(late, 10));
     let still = advanced(out, advance::advance(over, 0));
 }
 

@@ -7,6 +7,7 @@ use native.Mathlib.Nat.{eq-zero-or-pos}
 use native.Mathlib.Omega.{arith}
 use Prim.Native.Nat.{ℕ, zero, suc, ◌+◌, ◌*◌, ◌≤◌, ◌<◌}
 use lib.ListN.{length, get_or}
+use Rattle.std.specs.Prelude.{Option, None, Some}
 use Rattle.demand.proofs.Divide.{le-or-lt}
 use Rattle.demand.proofs.Inside.Places.{each_at}
 use Rattle.demand.proofs.Refusals.{refusal-in-range}
@@ -33,8 +34,6 @@ use Rattle.scheduler.specs.Bounds.{names}
 use Rattle.scheduler.specs.Reached.{offered_by}
 use Rattle.scheduler.specs.Scans.{at}
 use Rattle.scheduler.specs.Tick.{GoesTo, owed_with, key_in, ran_by, is_task}
-use Rattle.scheduler.specs.declared.Late.{Late}
-use Rattle.scheduler.specs.declared.Late.TheVariants as late
 use Rattle.scheduler.specs.declared.Ran.{Ran}
 use Rattle.scheduler.specs.declared.Ran.TheVariants.{Handler, Task, Idle}
 use Rattle.scheduler.specs.declared.Run.{Run}
@@ -55,10 +54,10 @@ no-work : (rs : List Row) (i x : ℕ) → length rs ≤ i → (row_at rs i).cost
 no-work rs i x l = ap (λ (r : Row). r.cost * x) (none-at rs i l) ∙ (let z : 0 * x ≡ 0 = omega arith in z)
 
 -- A late row that is rightly named.
-named-task : (l first : Late) → names l first ≡ true → is_task first ≡ true
-named-task late.Nobody first e = absurd (false≢true e)
-named-task (late.Task i) late.Nobody e = absurd (false≢true e)
-named-task (late.Task i) (late.Task j) e = refl
+named-task : (l first : Option ℕ) → names l first ≡ true → is_task first ≡ true
+named-task None first e = absurd (false≢true e)
+named-task (Some i) None e = absurd (false≢true e)
+named-task (Some i) (Some j) e = refl
 
 not-not : (b : Bool) → not b ≡ false → b ≡ true
 not-not true e = refl

@@ -4,11 +4,11 @@ use mathlib.Core.Path.{◌≡◌, refl, sym, ap, ap₂, ◌∙◌}
 use native.Mathlib.Nat.{mul-suc}
 use native.Mathlib.Omega.{arith}
 use Prim.Native.Nat.{ℕ, suc, ◌+◌, ◌-◌, ◌*◌, ◌≤◌, ◌<◌}
-use lib.ListN.{length, get_or, set, replicate, length-append, length-replicate, get_or-replicate, length-set}
-use lib.Seq.{set_at, ext_get_or}
+use lib.ListN.{length, set, replicate, length-append, length-replicate, length-set}
+use lib.Seq.{set_at}
 use Rattle.own_segments.specs.Drawn.{kind_of, row_of, numbers_of}
 use Rattle.own_segments.specs.Inside.{put_at}
-use Rattle.scheduler.proofs.Steps.Scan.{length-filled, filled-below}
+use Rattle.scheduler.proofs.Steps.Scan.{length-filled}
 use Rattle.scheduler.specs.Scans.{filled}
 use Rattle.scheduler.specs.Start.{padded}
 use Rattle.segments.specs.Given.{Who, nobody, task, handler}
@@ -84,13 +84,3 @@ put-length out k a b c d = simp length-set
 
 pub filled-long : (f : ℕ → ℕ) (k : ℕ) (old new : List ℕ) → new ≡ filled f k old → length new ≡ length old
 filled-long f k old new e = ap length e ∙ length-filled f k old
-
--- Zeros all over.
-pub cleared : (k : ℕ) (old new : List ℕ) → k ≤ length old → length new ≤ k → new ≡ filled (λ j. 0) k old → new ≡ replicate (length old) 0
-cleared k old new le ge e =
-    let long : length new ≡ length old = ap length e ∙ length-filled (λ j. 0) k old in
-    ext_get_or 0 new (replicate (length old) 0) (long ∙ sym (length-replicate {A = ℕ} (length old) 0))
-    (λ i l.
-    ap (λ (xs : List ℕ). get_or xs i 0) e
-    ∙ filled-below (λ j. 0) k i old (omega arith) (omega arith)
-    ∙ sym (get_or-replicate {A = ℕ} (length old) i 0 0 (omega arith)))

@@ -5,6 +5,10 @@ use mathlib.Core.Path.{◌≡◌, refl, sym, ap, ◌∙◌}
 use native.Mathlib.Omega.{arith}
 use Prim.Native.Nat.{ℕ, ◌≤◌, ◌<◌}
 use lib.ListN.{length, replicate, length-replicate}
+use Rattle.demand.proofs.Numbered.{number-pos}
+use Rattle.demand.specs.Numbered.{number_of}
+use Rattle.demand.specs.declared.refusal.Refusal.{Refusal}
+use Rattle.std.specs.Prelude.{Ok, Err}
 use Rattle.demand.specs.Limits.{ticks_most}
 use Rattle.demand.specs.Refusals.{table_refusal}
 use Rattle.guarantees.specs.Patterns.{pattern_to}
@@ -49,23 +53,19 @@ fresh-sync : (t h : List ℕ) (a : Fresh) → FreshSays t h a → a.run ≡ sync
 unfolding pattern_to offered_by
 fresh-sync t h a says = ap (λ (x : Fresh). x.run) says.answer
 
-module _ (t h : List ℕ) (L : ℕ) (old clear : List ℕ) (cleared : clear ≡ replicate (length old) 0) (number : ℕ)
-    (asked : number ≡ judge_refusal t h [] L) where
-  en : number ≡ own_refusal t h L
-  unfolding own_refusal
-  en = asked
-
-  pub says-refused : 0 < number → OwnSays t h L old clear (answer.Refused number)
-  unfolding OwnSays SaysBy figures
-  says-refused some = record {
-    unanswered = omega (arith, en);
+module _ (t h : List ℕ) (L : ℕ) (old clear : List ℕ) (cleared : clear ≡ replicate (length old) 0) where
+  pub says-refused : (e : Refusal) → number_of e ≡ judge_refusal t h [] L → OwnSays t h L old clear (Err e)
+  unfolding OwnSays SaysBy figures own_refusal
+  says-refused e asked = record {
+    unanswered = omega (arith, number-pos e, asked);
     laid = cleared ∙ sym (padded-none (length old));
-    figures = ap (λ (k : ℕ). record { word = refused; code = k; count = 0; end = 0 }) en;
+    figures = ap (λ (k : ℕ). record { word = refused; code = k; count = 0; end = 0 }) asked;
   }
 
-  module _ (none : ¬ (0 < number)) where
+  module _ (asked : 0 ≡ judge_refusal t h [] L) where
     zero-refusal : own_refusal t h L ≡ 0
-    zero-refusal = let z : number ≡ 0 = omega arith in sym en ∙ z
+    unfolding own_refusal
+    zero-refusal = sym asked
 
     long : length clear ≡ length old
     long = ap length cleared ∙ length-replicate {A = ℕ} (length old) 0
@@ -88,7 +88,7 @@ module _ (t h : List ℕ) (L : ℕ) (old clear : List ℕ) (cleared : clear ≡ 
       room-is : room ≡ room_in (length old)
       room-is = er ∙ ap room_in long
 
-      pub says-many : room < d.count → (new : List ℕ) → new ≡ replicate (length drawing) 0 → OwnSays t h L old new answer.TooMany
+      pub says-many : room < d.count → (new : List ℕ) → new ≡ replicate (length drawing) 0 → OwnSays t h L old new (Ok answer.TooMany)
       unfolding OwnSays SaysBy figures
       says-many many new e = record {
         answered = zero-refusal;
@@ -97,7 +97,7 @@ module _ (t h : List ℕ) (L : ℕ) (old clear : List ℕ) (cleared : clear ≡ 
         figures = refl;
       }
 
-      pub says-segments : ¬ (room < d.count) → OwnSays t h L old drawing (answer.Segments d.count d.end)
+      pub says-segments : ¬ (room < d.count) → OwnSays t h L old drawing (Ok (answer.Segments d.count d.end))
       unfolding OwnSays SaysBy figures
       says-segments few =
           let l : d.count ≤ room = omega arith in

@@ -5,7 +5,7 @@ use mathlib.Core.Path.{◌≡◌, sym, ap, ◌∙◌}
 use native.Mathlib.Nat.{mod-add-mod, mod-eq_of_lt, eq-or-lt_of_le}
 use native.Mathlib.Omega.{arith}
 use borrow.Author.Tests.{ne_eqb}
-use Prim.Native.Nat.{ℕ, ◌+◌, ◌-◌, ◌*◌, ◌%◌, ◌≤◌, ◌<◌}
+use Prim.Native.Nat.{ℕ, ◌+◌, ◌-◌, ◌%◌, ◌≤◌, ◌<◌}
 use lib.ListN.{length, get_or, take, length-append, length-take, get_or-append}
 use lib.Seq.{ext_get_or, get_or-take, get_or-append-add}
 use Rattle.demand.proofs.Divide.{le-or-lt}
@@ -53,12 +53,12 @@ module _ (t h : List ℕ) where
             rw (← row_back k m)
             (each_at FairRow (handlers_of h) (refusal-in-range t h e).handlers (k - length (tasks_of t)) (omega (arith, rows-length)))
 
-    -- Where the numbers of a row stand.
-    pub task-numbers : (k : ℕ) → k < length (tasks_of t) → (k < tasks_most) × (3 * k + 3 ≤ length t)
-    task-numbers k l = let w = whole t h e in (omega (arith, w.in-range.tasks-most), omega (arith, w.tasks))
+    -- Each row has a place.
+    pub task-placed : (k : ℕ) → k < length (tasks_of t) → (k < tasks_most) × (k < length (tasks_of t))
+    task-placed k l = (omega (arith, (whole t h e).in-range.tasks-most), l)
 
-    pub handler-numbers : (k : ℕ) → k < length (handlers_of h) → (k < tasks_most) × (2 * k + 2 ≤ length h)
-    handler-numbers k l = let w = whole t h e in (omega (arith, w.in-range.handlers-most), omega (arith, w.handlers))
+    pub handler-placed : (k : ℕ) → k < length (handlers_of h) → (k < tasks_most) × (k < length (handlers_of h))
+    handler-placed k l = (omega (arith, (whole t h e).in-range.handlers-most), l)
 
   -- ---- arrivals
 

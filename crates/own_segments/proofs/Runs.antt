@@ -7,10 +7,13 @@ use native.Mathlib.Nat.{add-zero, add-suc}
 use native.Mathlib.Omega.{arith}
 use Prim.Native.Nat.{ℕ, zero, suc, ◌+◌, ◌-◌, ◌≤◌, ◌<◌}
 use lib.ListN.{length, take, length-take}
+use Rattle.demand.specs.declared.refusal.Refusal.TheVariants.{RunOver}
+use Rattle.demand.specs.declared.refusal.Refusal.{Refusal}
+use Rattle.std.specs.Prelude.{None, Result, Ok, Err}
 use Rattle.advance.proofs.Slides.{went_back}
 use Rattle.advance.proofs.Stretches.{stretch-zero, stretch-next}
 use Rattle.advance.specs.Promise.{WentTo, GoesOnTo, PieceSays}
-use Rattle.advance.specs.Stretch.{quiet, quietly, stretch}
+use Rattle.advance.specs.Stretch.{quiet, quietly, stretch, number_in}
 use Rattle.advance.specs.declared.Piece.{Piece}
 use Rattle.demand.proofs.Divide.{le-or-lt}
 use Rattle.demand.specs.Limits.{ticks_most}
@@ -33,18 +36,17 @@ use Rattle.scheduler.specs.Runs.{row_count}
 use Rattle.scheduler.specs.Start.{zeros, fresh_run}
 use Rattle.scheduler.specs.Steps.{step_refusal, step_of}
 use Rattle.scheduler.specs.Tick.{ticked_by}
-use Rattle.scheduler.specs.declared.Answer.{Answer}
-use Rattle.scheduler.specs.declared.Answer.TheVariants.{Ticked, Refused}
 use Rattle.scheduler.specs.declared.Ran.{Ran}
 use Rattle.scheduler.specs.declared.Run.{Run}
 use Rattle.scheduler.specs.declared.Stepped.{Stepped}
+use Rattle.scheduler.specs.declared.Ticked.{Ticked}
 use Rattle.segments.specs.Given.{nobody}
 
 -- Who ran, where a tick went to ran.
-went-ran : (ran : Ran) (a : Answer) → WentTo ran a → ran_of a ≡ ran
+went-ran : (ran : Ran) (a : Result Ticked Refusal) → WentTo ran a → ran_of a ≡ ran
 unfolding WentTo
-went-ran ran (Ticked r l) w = w
-went-ran ran (Refused k) w = absurd w
+went-ran ran (Ok t) w = w
+went-ran ran (Err e) w = absurd w
 
 module _ (t h : List ℕ) (e : table_refusal t h ≡ 0) where
   pub sync-next : (n : ℕ) → sync_run t h (suc n) ≡ (step_of (sync_run t h n) (beat_of t h n)).run
@@ -113,7 +115,7 @@ module _ (t h : List ℕ) (e : table_refusal t h ≡ 0) where
         = ap (beat_of t h) (sym (add-zero n)) ∙ quiet-offer 0 (omega arith) ∙ ap (λ (x : ℕ). quiet (sync_run t h x)) (add-zero n) in
         let accepted : step_refusal (sync_run t h n) (quiet (sync_run t h n)) ≡ 0
         = ap (step_refusal (sync_run t h n)) (sym now) ∙ sync-accepted n (omega (arith, turning.before, turning.soon)) turning.going in
-        let number : p.number ≡ 0 = says.number ∙ ap (λ (r : Run). step_refusal r (quiet r)) here ∙ accepted in
+        let number : number_in p.refusal ≡ 0 = says.number ∙ ap (λ (r : Run). step_refusal r (quiet r)) here ∙ accepted in
         record {
           some = says.some number (omega arith);
           within = omega (arith, says.at_most, turning.before);
@@ -143,7 +145,7 @@ module _ (t h : List ℕ) (e : table_refusal t h ≡ 0) where
   -- ---- with arrivals
 
   pub step-turned : (n span : ℕ) (run : Run) (ws : List ℕ) (s : Stepped) (ran : Ran) → Turning t h run n span → ws ≡ beat_of t h n
-      → s ≡ step_of run ws → ran ≡ ran_of s.answer → Turned t h n span (record { run = s.run; ran = ran; ticks = 1; number = 0 })
+      → s ≡ step_of run ws → ran ≡ ran_of s.answer → Turned t h n span (record { run = s.run; ran = ran; ticks = 1; refusal = None })
   unfolding own
   step-turned n span run ws s ran turning ew es er =
       let whole : s ≡ step_of (sync_run t h n) (beat_of t h n) = es ∙ ap₂ step_of turning.run_is ew in
@@ -165,7 +167,7 @@ module _ (t h : List ℕ) (e : table_refusal t h ≡ 0) where
   -- ---- over
 
   module _ (n : ℕ) (soon : n ≤ ticks_most) (going : (m : ℕ) → m < n → (sync_run t h m).over ≡ false) (over : (sync_run t h n).over ≡ true) where
-    refused : (ws : List ℕ) → step_of (sync_run t h n) ws ≡ record { run = sync_run t h n; answer = Refused 7 }
+    refused : (ws : List ℕ) → step_of (sync_run t h n) ws ≡ record { run = sync_run t h n; answer = Err RunOver }
     refused ws =
         let inside = (sync-follows n soon going).well-made.in_bounds in
         step-refused due_of (sync_run t h n) ws 7 (refusal-7 (sync_run t h n) ws (sym inside) over) (λ z. omega arith)

@@ -5,11 +5,14 @@ use mathlib.Core.Logic.{◌⊎◌, inl, inr}
 use mathlib.Core.Path.{◌≡◌, refl, sym, ap, ap₂, ◌∙◌}
 use native.Mathlib.Omega.{arith}
 use Prim.Native.Nat.{ℕ, ◌≤◌, ◌<◌}
+use Rattle.demand.proofs.Numbered.{number-once}
+use Rattle.demand.specs.Numbered.{number_of}
+use Rattle.std.specs.Prelude.{Ok, Err}
 use Rattle.demand.proofs.Divide.{le-or-lt}
 use Rattle.own_segments.specs.Own.{Ending}
 use Rattle.own_segments.specs.Promise.{Figures, figures, OwnSays, SaysBy}
 use Rattle.own_segments.specs.Unique.{OwnUnique}
-use Rattle.own_segments.specs.declared.Answer.TheVariants.{Segments, TooMany, Refused}
+use Rattle.own_segments.specs.declared.Answer.TheVariants.{Segments, TooMany}
 
 -- The run ends at one clock.
 not-before : (t h : List ℕ) (L e e' : ℕ) → Ending t h L e → Ending t h L e' → e < e' → ⊥
@@ -25,16 +28,16 @@ ending-unique t h L e e' a b = go (le-or-lt e e') (le-or-lt e' e)
 
 pub own-unique : OwnUnique
 unfolding OwnSays SaysBy figures
-own-unique t h L old new new' (Segments c e) (Segments c' e') a b =
+own-unique t h L old new new' (Ok (Segments c e)) (Ok (Segments c' e')) a b =
     let count : c ≡ c' = ap (λ (g : Figures). g.count) a.figures ∙ sym (ap (λ (g : Figures). g.count) b.figures) in
-    (ap₂ Segments count (ending-unique t h L e e' a.ending b.ending), a.laid ∙ sym b.laid)
-own-unique t h L old new new' (Segments c e) TooMany a b = absurd (omega (arith, a.few, b.many))
-own-unique t h L old new new' (Segments c e) (Refused k) a b = absurd (omega (arith, a.answered, b.unanswered))
-own-unique t h L old new new' TooMany (Segments c e) a b = absurd (omega (arith, b.few, a.many))
-own-unique t h L old new new' TooMany TooMany a b = (refl, a.laid ∙ sym b.laid)
-own-unique t h L old new new' TooMany (Refused k) a b = absurd (omega (arith, a.answered, b.unanswered))
-own-unique t h L old new new' (Refused k) (Segments c e) a b = absurd (omega (arith, b.answered, a.unanswered))
-own-unique t h L old new new' (Refused k) TooMany a b = absurd (omega (arith, b.answered, a.unanswered))
-own-unique t h L old new new' (Refused k) (Refused k') a b =
-    let number : k ≡ k' = ap (λ (g : Figures). g.code) a.figures ∙ sym (ap (λ (g : Figures). g.code) b.figures) in
-    (ap Refused number, a.laid ∙ sym b.laid)
+    (ap Ok (ap₂ Segments count (ending-unique t h L e e' a.ending b.ending)), a.laid ∙ sym b.laid)
+own-unique t h L old new new' (Ok (Segments c e)) (Ok TooMany) a b = absurd (omega (arith, a.few, b.many))
+own-unique t h L old new new' (Ok (Segments c e)) (Err k) a b = absurd (omega (arith, a.answered, b.unanswered))
+own-unique t h L old new new' (Ok TooMany) (Ok (Segments c e)) a b = absurd (omega (arith, b.few, a.many))
+own-unique t h L old new new' (Ok TooMany) (Ok TooMany) a b = (refl, a.laid ∙ sym b.laid)
+own-unique t h L old new new' (Ok TooMany) (Err k) a b = absurd (omega (arith, a.answered, b.unanswered))
+own-unique t h L old new new' (Err k) (Ok (Segments c e)) a b = absurd (omega (arith, b.answered, a.unanswered))
+own-unique t h L old new new' (Err k) (Ok TooMany) a b = absurd (omega (arith, b.answered, a.unanswered))
+own-unique t h L old new new' (Err k) (Err k') a b =
+    let number : number_of k ≡ number_of k' = ap (λ (g : Figures). g.code) a.figures ∙ sym (ap (λ (g : Figures). g.code) b.figures) in
+    (ap Err (number-once k k' number), a.laid ∙ sym b.laid)

@@ -3,13 +3,13 @@
 --   ran_of answer      == who ran, by the answer to a step; nobody where it is refused, as each step of a run that is over
 --   own t h n         == to whom the run of the table t, h gives tick n
 --   Ending t h L e    within a span of L ticks the run ends at clock e: it is not over before e, and e is L or it is over at e
-use Rattle.std.specs.Prelude.{true, false, List, ◌≡◌, ℕ, ◌≤◌, ◌<◌}
+use Rattle.demand.specs.declared.refusal.Refusal.{Refusal}
+use Rattle.std.specs.Prelude.{true, false, List, ◌≡◌, ℕ, ◌≤◌, ◌<◌, Result, Ok, Err}
 use Rattle.guarantees.specs.Synchronous.{beat_of, sync_run}
 use Rattle.scheduler.specs.Steps.{step_of}
-use Rattle.scheduler.specs.declared.Answer.{Answer}
-use Rattle.scheduler.specs.declared.Answer.TheVariants.{Ticked, Refused}
 use Rattle.scheduler.specs.declared.Ran.{Ran}
 use Rattle.scheduler.specs.declared.Ran.TheVariants as ran
+use Rattle.scheduler.specs.declared.Ticked.{Ticked}
 use Rattle.segments.specs.Given.{Who, nobody, task, handler}
 
 abbrev pub who_ran : Ran → Who
@@ -17,9 +17,9 @@ who_ran (ran.Handler i) = handler i
 who_ran (ran.Task i) = task i
 who_ran ran.Idle = nobody
 
-abbrev pub ran_of : Answer → Ran
-ran_of (Ticked ran late) = ran
-ran_of (Refused k) = ran.Idle
+abbrev pub ran_of : Result Ticked Refusal → Ran
+ran_of (Ok t) = t.ran
+ran_of (Err e) = ran.Idle
 
 unfoldable pub own : List ℕ → List ℕ → ℕ → Who
 own t h n = who_ran (ran_of (step_of (sync_run t h n) (beat_of t h n)).answer)

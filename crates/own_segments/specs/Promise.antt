@@ -6,7 +6,9 @@
 --   segments_figures, too_many_figures, refusal_figures   == those of segments, of too many and of a refusal
 --   Laid old new s        what is lent holds the numbers s, and zeros behind them
 --   OwnSays t h L old new r   r is the answer to the table t, h and the span L, and new what is left in the list lent as old
-use Rattle.std.specs.Prelude.{List, [], ◌≡◌, ℕ, ◌/◌, ◌≤◌, ◌<◌, min, length}
+use Rattle.demand.specs.Numbered.{number_of}
+use Rattle.demand.specs.declared.refusal.Refusal.{Refusal}
+use Rattle.std.specs.Prelude.{List, [], ◌≡◌, ℕ, ◌/◌, ◌≤◌, ◌<◌, min, length, Result, Ok, Err}
 use Rattle.own_segments.specs.Drawn.{segments_to, numbers_of, Stops}
 use Rattle.own_segments.specs.Own.{own, Ending}
 use Rattle.own_segments.specs.declared.Answer.{Answer}
@@ -46,10 +48,10 @@ too_many_figures = record { word = too_many; code = 0; count = 0; end = 0 }
 abbrev pub refusal_figures : ℕ → Figures
 refusal_figures number = record { word = refused; code = number; count = 0; end = 0 }
 
-unfoldable pub figures : Answer → Figures
-figures (answer.Segments count end) = segments_figures count end
-figures answer.TooMany = too_many_figures
-figures (answer.Refused number) = refusal_figures number
+unfoldable pub figures : Result Answer Refusal → Figures
+figures (Ok (answer.Segments count end)) = segments_figures count end
+figures (Ok answer.TooMany) = too_many_figures
+figures (Err e) = refusal_figures (number_of e)
 
 -- ---- what they say
 
@@ -85,5 +87,5 @@ SaysBy segments t h L old new g = SaysSegments t h L old new g
 SaysBy too_many t h L old new g = SaysTooMany t h L old new g
 SaysBy refused t h L old new g = SaysRefused t h L old new g
 
-unfoldable pub OwnSays : List ℕ → List ℕ → ℕ → List ℕ → List ℕ → Answer → Type 0
+unfoldable pub OwnSays : List ℕ → List ℕ → ℕ → List ℕ → List ℕ → Result Answer Refusal → Type 0
 OwnSays t h L old new r = SaysBy (figures r).word t h L old new (figures r)

@@ -1,8 +1,7 @@
 // The synchronous arrivals of a tick, and the ticks without any.
-ghost use Rattle.std.specs.Prelude.{◌≡◌, ◌+◌, ◌*◌, ◌≤◌, ◌<◌, length, take};
-ghost use Rattle.demand.specs.Limits.{tasks_most};
+ghost use Rattle.std.specs.Prelude.{◌≡◌, ◌≤◌, ◌<◌, length, take};
 ghost use Rattle.demand.specs.Refusals.{table_refusal, FairRow};
-ghost use Rattle.demand.specs.Rows.{tasks_of, rows_of, width, row_at, row_of};
+ghost use Rattle.demand.specs.Rows.{tasks_of, row_at, row_of};
 ghost use Rattle.guarantees.specs.Patterns.{rows_in};
 ghost use Rattle.guarantees.specs.Synchronous.{beat_of};
 ghost use Rattle.own_segments.specs.Inside.{Rests, Quiet};
@@ -13,15 +12,6 @@ use demand::table;
 use demand::table::{Kind, Row};
 use scheduler::sizes::PLACES;
 
-// The row at place i of a flat list.
-fn row_of(kind: Kind, s: &[u32], i: usize) -> Row
-    requires { (i < tasks_most) × (width kind * i + width kind ≤ length s.now) }
-    ensures { row_of result ≡ row_at (rows_of kind s.now) i }
-{
-    let at = table::width(kind) * i;
-    table::head(kind, &s[at..])
-}
-
 // The row at place k, handlers behind n tasks.
 fn row_at(tasks: &[u32], handlers: &[u32], n: usize, k: usize) -> Row
     requires { (table_refusal tasks.now handlers.now ≡ 0) × (n ≡ length (tasks_of tasks.now))
@@ -29,9 +19,9 @@ fn row_at(tasks: &[u32], handlers: &[u32], n: usize, k: usize) -> Row
     ensures { row_of result ≡ row_at (rows_in tasks.now handlers.now) k }
 {
     if k < n {
-        row_of(Kind::Task, tasks, k)
+        table::row_at(Kind::Task, tasks, k)
     } else {
-        row_of(Kind::Handler, handlers, k - n)
+        table::row_at(Kind::Handler, handlers, k - n)
     }
 }
 
@@ -65,11 +55,8 @@ pub fn beats(tasks: &[u32], handlers: &[u32], tick: u64) -> [u32; PLACES]
     let n = table::count(Kind::Task, tasks);
     let all = count(tasks, handlers);
     let mut ws = [0u32; PLACES];
-    let mut k = 0;
-    while k < all {
-        let row = row_at(tasks, handlers, n, k);
-        ws[k] = beat(row, tick);
-        k += 1;
+    for k in 0..all {
+        ws[k] = beat(row_at(tasks, handlers, n, k), tick);
     }
     ws
 }
@@ -83,8 +70,7 @@ fn until(row: Row, tick: u64, most: u64) -> u64
     if rest == 0 {
         return 0;
     }
-    let gap = row.period - rest;
-    if gap < most { gap } else { most }
+    (row.period - rest).min(most)
 }
 
 // The ticks from this one on at which none does, of at most so many.
@@ -95,11 +81,8 @@ pub fn gap(tasks: &[u32], handlers: &[u32], tick: u64, most: u64) -> u64
     let n = table::count(Kind::Task, tasks);
     let all = count(tasks, handlers);
     let mut least = most;
-    let mut k = 0;
-    while k < all {
-        let row = row_at(tasks, handlers, n, k);
-        least = until(row, tick, least);
-        k += 1;
+    for k in 0..all {
+        least = until(row_at(tasks, handlers, n, k), tick, least);
     }
     least
 }

@@ -1,6 +1,6 @@
 // Segments written into a lent list, the last one held back until its end is known.
 ghost use Rattle.std.specs.Prelude.{◌≡◌, ◌+◌, ◌*◌, ◌≤◌, ◌/◌, length, replicate};
-ghost use Rattle.own_segments.specs.Inside.{same_ran, put_in, closed_count, closed_out, moved_pen, moved_out};
+ghost use Rattle.own_segments.specs.Inside.{put_in, closed_count, closed_out, moved_pen, moved_out};
 ghost use Rattle.own_segments.specs.Promise.{room_in};
 
 use scheduler::Ran;
@@ -11,7 +11,7 @@ pub const SEGMENTS_MOST: usize = 2048;
 pub const WIDTH: usize = 4;
 
 // Who runs since when, and how many segments are written.
-#[derive(Clone, Copy)]
+#[derive(Clone, Copy, Debug, PartialEq, Eq)]
 pub struct Pen {
     pub ran: Ran,
     pub from: u64,
@@ -22,45 +22,14 @@ pub struct Pen {
 pub fn room(out: &[u64]) -> usize
     ensures { result ≡ room_in (length out.now) }
 {
-    let whole = out.len() / WIDTH;
-    if whole < SEGMENTS_MOST {
-        whole
-    } else {
-        SEGMENTS_MOST
-    }
+    (out.len() / WIDTH).min(SEGMENTS_MOST)
 }
 
 // Zeros all over.
 pub fn clear(out: &mut [u64])
     ensures { out.new ≡ replicate (length out.old) 0 }
 {
-    let mut k = 0;
-    while k < out.len() {
-        out[k] = 0;
-        k += 1;
-    }
-}
-
-fn same(a: Ran, b: Ran) -> bool
-    ensures { result ≡ same_ran a b }
-{
-    match a {
-        Ran::Handler { row } => match b {
-            Ran::Handler { row: other } => row == other,
-            Ran::Task { row: _ } => false,
-            Ran::Idle => false,
-        },
-        Ran::Task { row } => match b {
-            Ran::Handler { row: _ } => false,
-            Ran::Task { row: other } => row == other,
-            Ran::Idle => false,
-        },
-        Ran::Idle => match b {
-            Ran::Handler { row: _ } => false,
-            Ran::Task { row: _ } => false,
-            Ran::Idle => true,
-        },
-    }
+    out.fill(0);
 }
 
 // One segment more behind so many; nothing where there is no room.
@@ -82,8 +51,7 @@ pub fn closed(pen: Pen, tick: u64, room: usize, out: &mut [u64]) -> usize
     requires { (room ≤ room_in (length out.old)) × (pen.count ≤ room + 1) }
     ensures { (result ≡ closed_count pen) × (out.new ≡ closed_out out.old pen tick room) }
 {
-    let ran = pen.ran;
-    match ran {
+    match pen.ran {
         Ran::Handler { row } => {
             put(out, pen.count, 1, row as u64, pen.from, tick, room);
             pen.count + 1
@@ -101,8 +69,7 @@ pub fn moved(pen: Pen, ran: Ran, tick: u64, room: usize, out: &mut [u64]) -> Pen
     requires { (room ≤ room_in (length out.old)) × (pen.count ≤ room + 1) }
     ensures { (result ≡ moved_pen pen ran tick) × (out.new ≡ moved_out out.old pen ran tick room) }
 {
-    let held = pen.ran;
-    if same(held, ran) {
+    if pen.ran == ran {
         return pen;
     }
     let count = closed(pen, tick, room, out);

@@ -5,14 +5,15 @@ ghost use Rattle.own_segments.specs.Own.{ran_of};
 
 use crate::arrivals;
 use advance::Piece;
-use scheduler::{Answer, Ran, Run};
+use demand::refusal::Refusal;
+use scheduler::{Ran, Run, Ticked};
 
-fn ran_of(answer: Answer) -> Ran
+fn ran_of(answer: Result<Ticked, Refusal>) -> Ran
     ensures { result ≡ ran_of answer }
 {
     match answer {
-        Answer::Ticked { ran, late: _ } => ran,
-        Answer::Refused { number: _ } => Ran::Idle,
+        Ok(ticked) => ticked.ran,
+        Err(_) => Ran::Idle,
     }
 }
 
@@ -24,14 +25,11 @@ fn arriving(tasks: &[u32], handlers: &[u32], run: Run, clock: u64, span: u64) ->
     let ws = arrivals::beats(tasks, handlers, clock);
     let all = arrivals::count(tasks, handlers);
     let stepped = run.step(&ws[..all]);
-    let answer = stepped.answer;
-    let ran = ran_of(answer);
-    let after = stepped.run;
     Piece {
-        run: after,
-        ran,
+        run: stepped.run,
+        ran: ran_of(stepped.answer),
         ticks: 1,
-        number: 0,
+        refusal: None,
     }
 }
 

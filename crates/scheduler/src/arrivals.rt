@@ -1,7 +1,6 @@
 // Arrivals: refusals 10 and 11, and what the arrivals of an accepted step change.
 ghost use Rattle.std.specs.Prelude.{◌≡◌, ◌+◌, ◌≤◌, length};
-ghost use Rattle.demand.specs.Limits.{figure_most, tasks_most, ticks_most};
-ghost use Rattle.scheduler.specs.Inside.OnePass.{heavy_task, heavy_handler};
+ghost use Rattle.demand.specs.Limits.{figure_most, ticks_most};
 ghost use Rattle.scheduler.specs.Inside.Counted.{Fitting, TableFair, OwedInWord};
 ghost use Rattle.scheduler.specs.Runs.{row_places, row_in, row_count};
 ghost use Rattle.scheduler.specs.Scans.{any};
@@ -24,41 +23,16 @@ pub fn some_early(run: &Run, arrivals: &[u32]) -> bool
     bad
 }
 
-// Does an arrival of a task bring more than its cost?
-fn tasks_heavy(run: &Run, arrivals: &[u32]) -> bool
-    requires { (run.now.task_count ≤ tasks_most) × (run.now.task_count ≤ length arrivals.now) }
-    ensures { result ≡ any (heavy_task run.now.tasks arrivals.now) run.now.task_count }
-{
-    let mut bad = false;
-    for k in 0..run.task_count {
-        let row = rows::task(run, k);
-        bad |= row.cost < u64::from(arrivals[k]);
-    }
-    bad
-}
-
-// Does one of a handler?
-fn handlers_heavy(run: &Run, arrivals: &[u32]) -> bool
-    requires { Fitting run.now.task_count run.now.handler_count × (length arrivals.now ≡ row_count run.now) }
-    ensures { result ≡ any (heavy_handler run.now.handlers arrivals.now run.now.task_count) run.now.handler_count }
-{
-    let n = run.task_count;
-    let mut bad = false;
-    for i in 0..run.handler_count {
-        let row = rows::handler(run, i);
-        bad |= row.cost < u64::from(arrivals[n + i]);
-    }
-    bad
-}
-
 // Does an arrival bring more than its row's cost?
 pub fn some_heavy(run: &Run, arrivals: &[u32]) -> bool
     requires { Fitting run.now.task_count run.now.handler_count × (length arrivals.now ≡ row_count run.now) }
     ensures { result ≡ any (heavy (row_in run.now) arrivals.now) (length arrivals.now) }
 {
-    let of_tasks = tasks_heavy(run, arrivals);
-    let of_handlers = handlers_heavy(run, arrivals);
-    of_tasks | of_handlers
+    let mut bad = false;
+    for (k, w) in arrivals.iter().enumerate() {
+        bad |= rows::row_at(run, k).cost < u64::from(*w);
+    }
+    bad
 }
 
 // Arrivals add their work.

@@ -21,7 +21,8 @@ use demand::table;
 use demand::table::TASKS_MOST;
 
 // A run: its table, the clock, for each row the next legal arrival and the work owed (handlers behind tasks), for each task the
-// tick by which its last job must be done, whether it is over, and the row of the task that was late.
+// tick by which its last job must be done, whether it is over, and the row of the task that was late. Arrays with counts beside them, since
+// there is no heap, and refusal 6 speaks of the places past the last row.
 #[derive(Clone, Copy, Debug, PartialEq, Eq)]
 pub struct Run {
     pub tasks: [u32; TASK_NUMBERS],

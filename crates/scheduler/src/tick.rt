@@ -11,7 +11,8 @@ use crate::sizes::PLACES;
 use crate::{Ran, Run, Stepped, Ticked, arrivals, rows};
 use demand::table::TASKS_MOST;
 
-// By which number tasks are chosen: the earliest deadline runs first, or the shortest period.
+// By which number tasks are chosen: the earliest deadline runs first, or the shortest period. No closure, since what the keys are is read
+// once a tick, before the search.
 #[derive(Clone, Copy)]
 pub enum Key {
     Deadline,

@@ -1,6 +1,6 @@
 // Each clause of refusal 6.
 use crate::{cases, made, said};
-use scheduler::{Late, Run};
+use scheduler::Run;
 use std::io::Stdout;
 
 // The table.
@@ -136,7 +136,7 @@ pub fn late_clauses(out: Stdout) {
         made::due_now(),
         &[0, 0, 0],
     );
-    let over = made::with_late(made::due_now(), true, Late::Task { row: 0 });
+    let over = made::with_late(made::due_now(), true, Some(0));
     said::ask(
         out,
         b"6, over, a deadline before the clock",
@@ -146,25 +146,25 @@ pub fn late_clauses(out: Stdout) {
     said::ask(
         out,
         b"6, over, another row late",
-        made::with_late(made::due_now(), true, Late::Task { row: 1 }),
+        made::with_late(made::due_now(), true, Some(1)),
         &[0, 0, 0],
     );
     said::ask(
         out,
         b"6, over, nobody late",
-        made::with_late(made::due_now(), true, Late::Nobody),
+        made::with_late(made::due_now(), true, None),
         &[0, 0, 0],
     );
     said::ask(
         out,
         b"6, over, no task at its deadline",
-        made::with_late(run, true, Late::Task { row: 0 }),
+        made::with_late(run, true, Some(0)),
         &[0, 0, 0],
     );
     said::ask(
         out,
         b"6, not over, a row late",
-        made::with_late(run, false, Late::Task { row: 0 }),
+        made::with_late(run, false, Some(0)),
         &[0, 0, 0],
     );
 }

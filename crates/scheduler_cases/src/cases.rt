@@ -5,10 +5,7 @@ use std::io::Stdout;
 
 // What a row brings at tick t where it arrives at 0 and each period.
 fn beat(t: u64, cost: u32, period: u64) -> u32 {
-    if period == 0 {
-        return 0;
-    }
-    if t % period == 0 { cost } else { 0 }
+    if t.is_multiple_of(period) { cost } else { 0 }
 }
 
 pub fn case_9() -> Run {
@@ -19,11 +16,9 @@ pub fn case_9() -> Run {
 pub fn case_13(out: Stdout) -> Run {
     say(out, b"case 13:");
     let mut run = case_9();
-    let mut t = 0;
-    while t < 10 {
+    for t in 0..10 {
         say(out, b" ");
         run = step(out, run, &[beat(t, 2, 5), beat(t, 4, 8), beat(t, 1, 4)]);
-        t += 1;
     }
     say(out, b"\n");
     run
@@ -48,11 +43,9 @@ pub fn sharp(deadline: u32) -> Run {
 // A run of two rows that bring c and d at 0 and each of their periods p and q, for so many ticks.
 fn both_arrive(out: Stdout, fresh: Run, c: u32, p: u64, d: u32, q: u64, ticks: u64) {
     let mut run = fresh;
-    let mut t = 0;
-    while t < ticks {
+    for t in 0..ticks {
         say(out, b" ");
         run = step(out, run, &[beat(t, c, p), beat(t, d, q)]);
-        t += 1;
     }
     say(out, b"\n");
 }

@@ -1,19 +1,18 @@
 // Runs made elsewhere: a run with one thing changed.
 use crate::cases;
+use scheduler::Run;
 use scheduler::sizes::{HANDLER_NUMBERS, PLACES, TASK_NUMBERS};
-use scheduler::{Late, Run};
 
 pub fn with_counts(run: Run, task_count: usize, handler_count: usize) -> Run {
-    let mut r = run;
-    r.task_count = task_count;
-    r.handler_count = handler_count;
-    r
+    Run {
+        task_count,
+        handler_count,
+        ..run
+    }
 }
 
 pub fn with_clock(run: Run, clock: u64) -> Run {
-    let mut r = run;
-    r.clock = clock;
-    r
+    Run { clock, ..run }
 }
 
 pub fn with_task_number(run: Run, k: usize, x: u32) -> Run {
@@ -56,31 +55,15 @@ pub fn with_owed(run: Run, k: usize, x: u64) -> Run {
     r
 }
 
-pub fn with_late(run: Run, over: bool, late: Late) -> Run {
-    let tasks = run.tasks;
-    let handlers = run.handlers;
-    let next = run.next;
-    let due = run.due;
-    let owed = run.owed;
-    Run {
-        tasks,
-        handlers,
-        task_count: run.task_count,
-        handler_count: run.handler_count,
-        clock: run.clock,
-        next,
-        due,
-        owed,
-        over,
-        late,
-    }
+pub fn with_late(run: Run, over: bool, late: Option<usize>) -> Run {
+    Run { over, late, ..run }
 }
 
 // Task 0, of cost 2 and period 5, owed 1 and due at 1000000000, at that clock, over and late.
 pub fn over_at_last() -> Run {
     let last = 1000000000;
     let due = with_owed(with_due(with_next(cases::case_9(), 0, last), 0, last), 0, 1);
-    with_late(with_clock(due, last), true, Late::Task { row: 0 })
+    with_late(with_clock(due, last), true, Some(0))
 }
 
 // Task 0, of cost 2 and period 5, owed 1 and due at 5, at clock 5.

@@ -1,6 +1,6 @@
 // Refusals 7 to 11, and the edges of each.
 use crate::{cases, made, said};
-use scheduler::{Late, Run};
+use scheduler::Run;
 use std::io::Stdout;
 
 pub fn later_refusals(out: Stdout, over: Run) {
@@ -9,7 +9,7 @@ pub fn later_refusals(out: Stdout, over: Run) {
     said::ask(
         out,
         b"7, over and in bounds",
-        made::with_late(made::due_now(), true, Late::Task { row: 0 }),
+        made::with_late(made::due_now(), true, Some(0)),
         &[0, 0, 0],
     );
     said::ask(
@@ -38,7 +38,7 @@ pub fn edges(out: Stdout) {
     said::ask(
         out,
         b"7 before 9",
-        made::with_late(made::due_now(), true, Late::Task { row: 0 }),
+        made::with_late(made::due_now(), true, Some(0)),
         &[0],
     );
     said::ask(out, b"8 before 9", made::with_clock(run, 1000000000), &[0]);

@@ -1,5 +1,5 @@
 // Steps, and what is printed of them.
-use scheduler::{Answer, Late, Ran, Run};
+use scheduler::{Ran, Run};
 use std::io::Stdout;
 
 pub fn say(out: Stdout, text: &[u8]) {
@@ -20,34 +20,29 @@ fn print_ran(out: Stdout, ran: Ran) {
     }
 }
 
-fn print_late(out: Stdout, late: Late, clock: u64) {
-    match late {
-        Late::Nobody => {}
-        Late::Task { row } => {
-            say(out, b", task ");
-            console::say_number(&out, row as u64);
-            say(out, b" late at clock ");
-            console::say_number(&out, clock);
-        }
+fn print_late(out: Stdout, late: Option<usize>, clock: u64) {
+    if let Some(row) = late {
+        say(out, b", task ");
+        console::say_number(&out, row as u64);
+        say(out, b" late at clock ");
+        console::say_number(&out, clock);
     }
 }
 
 // One step: who runs, and who is late at the next clock, or the refusal. The next run comes back.
 pub fn step(out: Stdout, run: Run, arrivals: &[u32]) -> Run {
     let stepped = run.step(arrivals);
-    let answer = stepped.answer;
-    let after = stepped.run;
-    match answer {
-        Answer::Ticked { ran, late } => {
-            print_ran(out, ran);
-            print_late(out, late, after.clock);
+    match stepped.answer {
+        Ok(ticked) => {
+            print_ran(out, ticked.ran);
+            print_late(out, ticked.late, stepped.run.clock);
         }
-        Answer::Refused { number } => {
+        Err(refusal) => {
             say(out, b"refused ");
-            console::say_number(&out, number as u64);
+            console::say_number(&out, u64::from(refusal.number()));
         }
     }
-    after
+    stepped.run
 }
 
 // A line of its own for one step.

@@ -1,14 +1,14 @@
--- Refusals 6 and 11 in one pass over the tasks and one over the handlers, as the code asks them.
+-- Refusal 6 in one pass over the tasks and one over the handlers, as the code asks it.
 --   TaskClear, HandlerClear   no clause of refusal 6 speaks against a row
 use mathlib.Core.Bool.{Bool, true, false, ◌&&◌, ◌||◌}
 use mathlib.Core.List.{List}
 use mathlib.Core.Logic.{◌⊎◌, inl, inr}
-use mathlib.Core.Path.{◌≡◌, refl, sym, ap, ◌∙◌}
+use mathlib.Core.Path.{◌≡◌, refl, sym, ◌∙◌}
 use native.Mathlib.Omega.{arith}
 use borrow.Author.Tests.{ltb-false, le-ltb, lt-ltb, le-leb, lt-leb}
 use Prim.Native.Nat.{ℕ, ◌+◌, ◌-◌, ◌*◌, ◌≤◌, ◌<◌}
 use lib.Dec.{ltb, leb}
-use lib.ListN.{length, get_or}
+use lib.ListN.{get_or}
 use Rattle.demand.proofs.Divide.{le-or-lt}
 use Rattle.demand.proofs.Refusals.{fair-row, sound-row}
 use Rattle.demand.specs.Limits.{ticks_most}
@@ -16,13 +16,12 @@ use Rattle.demand.specs.Refusals.{row_outside, deadline_outside, FairRow}
 use Rattle.demand.specs.Rows.{Row, tasks_of, handlers_of, row_at, Sound}
 use Rattle.scheduler.specs.Bounds.{miscounts, outside_at, deadline_outside_at, places_used, clock_past, too_far, too_much, too_much_behind, due_far, due_behind, passed, missed, late_wrong, late_named, out_of_bounds, InBounds}
 use Rattle.scheduler.specs.Inside.Counted.{Fitting}
-use Rattle.scheduler.specs.Inside.OnePass.{earliest_due, task_out, handler_out, task_out_at, handler_out_at, heavy_task, heavy_handler}
+use Rattle.scheduler.specs.Inside.OnePass.{earliest_due, task_out, handler_out, task_out_at, handler_out_at}
 use Rattle.scheduler.specs.Runs.{row_on, row_in, row_count}
 use Rattle.scheduler.specs.Scans.{at, any}
-use Rattle.scheduler.specs.Steps.{heavy}
 use Rattle.scheduler.specs.declared.Run.{Run}
 use Rattle.scheduler.proofs.Steps.Clauses.{fitting, Clauses, clauses, in_bounds}
-use Rattle.scheduler.proofs.Steps.Scan.{neither, same_test, any_at, any_false, any_same, any-split}
+use Rattle.scheduler.proofs.Steps.Scan.{neither, same_test, any_at, any_false, any-split}
 
 -- Passed is before the earliest deadline that has not.
 pub passed-before : (over : Bool) (clock due : ℕ) → ltb due (earliest_due over clock) ≡ passed over clock due
@@ -210,13 +209,3 @@ module _ (r : Run) where
 
       from : InBounds r → (places_used r || tasks_out || handlers_out || (late_wrong r || late_named r)) ≡ false
       from e = let c = clauses r e in rw (c.places, clauses-tasks c, clauses-handlers c, c.late, c.named)
-
--- Refusal 11 likewise.
-pub heavy-by-kind : (t h ws : List ℕ) (n m : ℕ) (tasks handlers : Bool) → length ws ≡ n + m
-    → tasks ≡ any (heavy_task t ws) n → handlers ≡ any (heavy_handler h ws n) m → (tasks || handlers) ≡ any (heavy (row_on t h n) ws) (length ws)
-heavy-by-kind t h ws n m tasks handlers count et eh =
-    rw (count, any-split (heavy (row_on t h n) ws) n m, et, eh)
-    (ap (λ (b : Bool). b || any (heavy_handler h ws n) m)
-    (any_same (heavy_task t ws) (heavy (row_on t h n) ws) n (λ k l. rw (task-row t h n k l)))
-    ∙ ap (λ (b : Bool). any (heavy (row_on t h n) ws) n || b)
-    (any_same (heavy_handler h ws n) (λ i. heavy (row_on t h n) ws (n + i)) m (λ i l. rw (handler-row t h n i))))

@@ -1,20 +1,16 @@
 -- Rows by place, as the code reads them.
 use mathlib.Core.Bool.{false}
-use mathlib.Core.List.{List, ◌∷◌}
-use mathlib.Core.Path.{◌≡◌, sym, ap, ◌∙◌}
+use mathlib.Core.Path.{◌≡◌}
 use mir.Syntax.{w64}
 use mir.Val.{Fits}
-use native.Mathlib.Nat.{add-zero, mul-le-mul}
+use native.Mathlib.Nat.{mul-le-mul}
 use native.Mathlib.Omega.{arith}
-use Prim.Native.Nat.{ℕ, ◌-◌, ◌*◌, ◌≤◌, ◌<◌}
-use lib.ListN.{length, get_or, take, drop}
-use lib.Seq.{get_or-drop}
-use Rattle.demand.proofs.Inside.Places.{rows_drop}
+use Prim.Native.Nat.{ℕ, ◌*◌, ◌≤◌, ◌<◌}
 use Rattle.demand.proofs.Refusals.{fair-row, sound-row}
-use Rattle.demand.proofs.Inside.Slices.{width-most, from_is}
+use Rattle.demand.proofs.Inside.Slices.{width-most}
 use Rattle.demand.specs.Limits.{figure_most, tasks_most, ticks_most}
 use Rattle.demand.specs.Refusals.{FairRow}
-use Rattle.demand.specs.Rows.{Row, rows_of, width, row_at, no_row, Sound}
+use Rattle.demand.specs.Rows.{Row, width, Sound}
 use Rattle.demand.specs.declared.table.Kind.{Kind}
 use Rattle.scheduler.specs.Bounds.{outside_at, deadline_outside_at}
 use Rattle.scheduler.specs.Runs.{task_numbers}
@@ -24,14 +20,6 @@ use Rattle.scheduler.proofs.Steps.Scan.{any_at}
 -- So many rows have no more numbers than a run has room for.
 pub numbers_fit : (kind : Kind) (count : ℕ) → count ≤ tasks_most → width kind * count ≤ task_numbers
 numbers_fit kind count few = mul-le-mul (width-most kind) few
-
--- The row at the head of the list from row i on is the row at i.
-pub row_read : (kind : Kind) (s : List ℕ) (from i : ℕ) (r : Row) (rest : List Row) → from ≡ width kind * i
-    → rows_of kind (take (length s - from) (drop from s)) ≡ r ∷ rest → r ≡ row_at (rows_of kind s) i
-row_read kind s from i r rest same e =
-    let behind : rows_of kind (drop from s) ≡ r ∷ rest = ap (rows_of kind) (sym (from_is from s)) ∙ e in
-    let rows : drop i (rows_of kind s) ≡ r ∷ rest = sym (rows_drop kind s i) ∙ ap (λ (n : ℕ). rows_of kind (drop n s)) (sym same) ∙ behind in
-    ap (λ (rs : List Row). get_or rs 0 no_row) (sym rows) ∙ get_or-drop i (rows_of kind s) 0 no_row ∙ ap (λ (k : ℕ). get_or (rows_of kind s) k no_row) (add-zero i)
 
 -- No figure is out of its range: the row at each place is fair.
 pub fair-at : (row : ℕ → Row) (n k : ℕ) → any (outside_at row) n ≡ false → k < n → FairRow (row k)

@@ -1,9 +1,8 @@
--- Refusals 6 and 11 as the code asks them: of each task, then of each handler, all clauses of a row at once.
--- That they are the refusals is proved in proofs/Steps/OnePass.
+-- Refusal 6 as the code asks it: of each task, then of each handler, all clauses of a row at once.
+-- That it is the refusal is proved in proofs/Steps/OnePass.
 --   earliest_due over clock    == the earliest deadline that has not passed
 --   task_out, handler_out       == a clause is met by a row with this next arrival, deadline and work owed
 --   task_out_at .. k            == by task k; handler_out_at .. i by handler i
---   heavy_task, heavy_handler   == refusal 11, of task k and of handler i
 --   used_past ..               == a place past the last row of these lists isn't 0
 --   late_out over late first   == the late row is not that of the first late task, or is named where the run is not over
 use Rattle.std.specs.Prelude.{Bool, not, ◌&&◌, ◌||◌, List, Option, ℕ, ◌+◌, ◌*◌, ltb, get_or, drop}
@@ -51,9 +50,3 @@ used_past t h next due owed n m =
 
 abbrev pub late_out : Bool → Option ℕ → Option ℕ → Bool
 late_out over late first = (over && not (names late first)) || (not over && is_task late)
-
-abbrev pub heavy_task : List ℕ → List ℕ → ℕ → Bool
-heavy_task t ws k = ltb (row_at (tasks_of t) k).cost (get_or ws k 0)
-
-abbrev pub heavy_handler : List ℕ → List ℕ → ℕ → ℕ → Bool
-heavy_handler h ws n i = ltb (row_at (handlers_of h) i).cost (get_or ws (n + i) 0)

@@ -1,5 +1,4 @@
 use mathlib.Core.Path.{◌≡◌}
-use Prim.Native.Nat.{◌-◌, ◌≤◌}
 use Rattle.demand.specs.Rows.{row_at}
 use Rattle.guarantees.specs.Patterns.{rows_in}
 use Rattle.machine.specs.Schedules.{beat}
@@ -7,7 +6,4 @@ use Rattle.scheduler.specs.Scans.{filled}
 use Rattle.own_segments.proofs.arrivals.beats.Given as goal
 
 abbrev pub invariant-loop-k : goal.invariant-loop-k
-invariant-loop-k l = (l.k ≤ l.all) × (l.ws ≡ filled (λ j. beat l.tick (row_at (rows_in l.tasks l.handlers) j)) l.k l.initial.ws)
-
-abbrev pub decreases-loop-k : goal.decreases-loop-k
-decreases-loop-k l = l.all - l.k
+invariant-loop-k l = l.ws ≡ filled (λ j. beat l.tick (row_at (rows_in l.tasks l.handlers) j)) l.k l.initial.ws

@@ -2,24 +2,24 @@ use mathlib.Core.Path.{ap, ◌∙◌}
 use native.Mathlib.Omega.{arith}
 use Prim.Native.Nat.{ℕ, ◌-◌}
 use Rattle.demand.specs.Rows.{row_at, handlers_of}
-use Rattle.own_segments.proofs.Rhythms.{rows-length, row-front, row_back, task-numbers, handler-numbers}
+use Rattle.own_segments.proofs.Rhythms.{rows-length, row-front, row_back, task-placed, handler-placed}
 use Rattle.own_segments.proofs.arrivals.row_at.Goals as goal
 
-pub row_of-requires : goal.row_of-requires
-row_of-requires c =
-    task-numbers _ _ c.requires.0 _ (omega (arith, c.requires.1))
+pub row_at-requires : goal.row_at-requires
+row_at-requires c =
+    task-placed _ _ c.requires.0 _ (omega (arith, c.requires.1))
 
-pub row_of-requires-else-k-n : goal.row_of-requires-else-k-n
-row_of-requires-else-k-n c =
-    handler-numbers _ _ c.requires.0 _
+pub row_at-requires-else-k-n : goal.row_at-requires-else-k-n
+row_at-requires-else-k-n c =
+    handler-placed _ _ c.requires.0 _
     (omega (arith, c.requires.1, c.requires.2, rows-length c.args.tasks.now c.args.handlers.now))
 
 pub returns-then-k-n : goal.returns-then-k-n
 returns-then-k-n c =
-    c.row_of.ensures ∙ row-front _ _ _ (omega (arith, c.requires.1))
+    c.row_at.ensures ∙ row-front _ _ _ (omega (arith, c.requires.1))
 
 pub returns-else-k-n : goal.returns-else-k-n
 returns-else-k-n c =
-    c.row_of-else-k-n.ensures
+    c.row_at-else-k-n.ensures
     ∙ ap (λ (n : ℕ). row_at (handlers_of c.args.handlers.now) (c.args.k - n)) c.requires.1
     ∙ row_back _ _ _ (omega (arith, c.requires.1))

@@ -20,4 +20,4 @@ slice_bounds-step-end c =
 pub returns : goal.returns
 returns c =
     let ws = ap (λ (n : ℕ). take n c.beats-ws.result) c.count-all.ensures ∙ c.beats-ws.ensures.1 in
-    step-turned _ _ c.requires.table _ _ _ _ _ _ c.requires ws c.step-stepped.ensures.answer c.ran_of-ran.ensures
+    step-turned _ _ c.requires.table _ _ _ _ _ _ c.requires ws c.step-stepped.ensures.answer c.ran_of.ensures

@@ -1,7 +1,10 @@
-use Rattle.scheduler.proofs.Steps.OnePass.{heavy-by-kind}
+use mathlib.Core.Path.{sym, ap}
+use Rattle.demand.specs.Rows.{Row}
+use Rattle.scheduler.proofs.Steps.Scan.{any-zero, any-turn}
 use Rattle.scheduler.proofs.arrivals.some_heavy.Goals as goal
 
-pub returns : goal.returns
-returns c =
-    let run = c.args.run.now in
-    heavy-by-kind run.tasks run.handlers c.args.arrivals.now run.task_count run.handler_count _ _ c.requires.1 c.tasks_heavy-of_tasks.ensures c.handlers_heavy-of_handlers.ensures
+pub loop-k-init : goal.loop-k-init
+loop-k-init c = sym (any-zero _)
+
+pub loop-k-preserved : goal.loop-k-preserved
+loop-k-preserved c = any-turn _ _ _ _ c.loop-k.invariant (simp (c.from.ensures, ap (λ (r : Row). r.cost) c.row_at.ensures))
