@@ -11,7 +11,8 @@ use lib.ListN.{length, take, length-append}
 use lib.Seq.{take-append_seam}
 use Rattle.demand.specs.Tests.{pick}
 use Rattle.guard_file.specs.File.{file_most, file_text, AllLawful, FileSays, OneList}
-use Rattle.guard_file.specs.Inside.Building.{nothing, some, Reading, read_from, read_over, unread, guards_at_end, outcome}
+use Rattle.std.specs.Prelude.{Some, None}
+use Rattle.guard_file.specs.Inside.Building.{Reading, read_from, read_over, unread, guards_at_end, outcome}
 use Rattle.guard_file.specs.Inside.Steps.{is_start}
 use Rattle.guard_file.specs.declared.steps.State.{State}
 use Rattle.guard_file.specs.declared.steps.State.TheVariants.{Broken, Head, HeadCr, Start, Name, First, Digits, RowCr}
@@ -25,7 +26,7 @@ use Rattle.text.proofs.Tests.{by}
 
 -- ---- what is accepted is a text
 
-pub never : (P : Type 0) (gs : List Guard) → nothing ≡ some gs → P
+pub never : (P : Type 0) (gs : List Guard) → None ≡ Some gs → P
 never P gs e =
     let z : ◌≡◌ {A = ℕ} 0 1 = cc in
     let f : ⊥ = omega arith in
@@ -61,7 +62,7 @@ Ends l gs = AllLawful gs × ((l ≡ file_text gs) ⊎ (l ≡ file_text gs ++ crl
 
 module _ (bs : List ℕ) (gs : List Guard) where
   -- The last line lacked its CRLF.
-  ends-short : is_start (read_from (read_over bs) crlf).st ≡ true → some (read_from (read_over bs) crlf).guards ≡ some gs → Ends bs gs
+  ends-short : is_start (read_from (read_over bs) crlf).st ≡ true → Some (read_from (read_over bs) crlf).guards ≡ Some gs → Ends bs gs
   ends-short t e =
       let w = read_from (read_over bs) crlf in
       let q : w.guards ≡ gs = cc in
@@ -70,31 +71,31 @@ module _ (bs : List ℕ) (gs : List Guard) where
       let h = holds-start w.st w.values w.guards (bs ++ crlf) t whole in
       (subst AllLawful q h.0, inl (sym (without_end (file_text w.guards) bs crlf h.1) ∙ ap file_text q))
 
-  ends-full : is_start (read_over bs).st ≡ true → some (read_over bs).guards ≡ some gs → Ends bs gs
+  ends-full : is_start (read_over bs).st ≡ true → Some (read_over bs).guards ≡ Some gs → Ends bs gs
   ends-full t e =
       let w = read_over bs in
       let q : w.guards ≡ gs = cc in
       let h = holds-start w.st w.values w.guards bs t (holds bs) in
       (subst AllLawful q h.0, inr (sym h.1 ∙ ap (λ (x : List Guard). file_text x ++ crlf) q))
 
-  ends : guards_at_end (read_over bs) ≡ some gs → Ends bs gs
+  ends : guards_at_end (read_over bs) ≡ Some gs → Ends bs gs
   ends e =
       by (λ t. is_start (read_from (read_over bs) crlf).st ≡ t
-      → pick t (some (read_from (read_over bs) crlf).guards) (pick (is_start (read_over bs).st) (some (read_over bs).guards) nothing)
-      ≡ some gs → Ends bs gs)
+      → pick t (Some (read_from (read_over bs) crlf).guards) (pick (is_start (read_over bs).st) (Some (read_over bs).guards) None)
+      ≡ Some gs → Ends bs gs)
       (is_start (read_from (read_over bs) crlf).st)
       (λ _. λ t. λ x. ends-short t x)
       (λ _. λ _. λ y.
-      by (λ t. is_start (read_over bs).st ≡ t → pick t (some (read_over bs).guards) nothing ≡ some gs → Ends bs gs)
+      by (λ t. is_start (read_over bs).st ≡ t → pick t (Some (read_over bs).guards) None ≡ Some gs → Ends bs gs)
       (is_start (read_over bs).st)
       (λ _. λ t. λ x. ends-full t x)
       (λ _. λ t. λ x. never _ gs x)
       refl y)
       refl e
 
-pub sound : (bs : List ℕ) (gs : List Guard) → outcome bs ≡ some gs → FileSays bs gs
+pub sound : (bs : List ℕ) (gs : List Guard) → outcome bs ≡ Some gs → FileSays bs gs
 sound bs gs e =
-    by (λ t. ltb file_most (length bs) ≡ t → pick t nothing (guards_at_end (read_over bs)) ≡ some gs → FileSays bs gs)
+    by (λ t. ltb file_most (length bs) ≡ t → pick t None (guards_at_end (read_over bs)) ≡ Some gs → FileSays bs gs)
     (ltb file_most (length bs))
     (λ _. λ t. λ x. never _ gs x)
     (λ _. λ t. λ x.
@@ -105,35 +106,35 @@ sound bs gs e =
 -- ---- a text is accepted
 
 accepted : (bs : List ℕ) (gs : List Guard) → AllLawful gs → (bs ≡ file_text gs) ⊎ (bs ≡ file_text gs ++ crlf)
-    → guards_at_end (read_over bs) ≡ some gs
+    → guards_at_end (read_over bs) ≡ Some gs
 accepted bs gs s (inl e) =
     let read = read-text gs s in
     ap (λ (x : List ℕ). guards_at_end (read_over x)) e
-    ∙ ap (λ (x : State). pick (is_start x) (some (read_from (read_over (file_text gs)) crlf).guards)
-    (pick (is_start (read_over (file_text gs)).st) (some (read_over (file_text gs)).guards) nothing)) read.0
-    ∙ ap some read.1
+    ∙ ap (λ (x : State). pick (is_start x) (Some (read_from (read_over (file_text gs)) crlf).guards)
+    (pick (is_start (read_over (file_text gs)).st) (Some (read_over (file_text gs)).guards) None)) read.0
+    ∙ ap Some read.1
 accepted bs gs s (inr e) =
     let read = read-text gs s in
     let w = read_from (read_over (file_text gs)) crlf in
     ap (λ (x : List ℕ). guards_at_end (read_over x)) e
     ∙ ap guards_at_end (read-append unread (file_text gs) crlf)
     ∙ started w read.0
-    ∙ ap some read.1
+    ∙ ap Some read.1
   where
     -- behind a whole line nothing is lacking
-    started : (w : Reading) → w.st ≡ Start → guards_at_end w ≡ some w.guards
+    started : (w : Reading) → w.st ≡ Start → guards_at_end w ≡ Some w.guards
     started w e =
         ap (λ (x : State). guards_at_end (record { st = x; values = w.values; guards = w.guards })) e
 
-pub complete : (bs : List ℕ) (gs : List Guard) → FileSays bs gs → outcome bs ≡ some gs
+pub complete : (bs : List ℕ) (gs : List Guard) → FileSays bs gs → outcome bs ≡ Some gs
 complete bs gs s =
-    ap (λ (t : Bool). pick t nothing (guards_at_end (read_over bs))) (le-ltb file_most (length bs) s.small)
+    ap (λ (t : Bool). pick t None (guards_at_end (read_over bs))) (le-ltb file_most (length bs) s.small)
     ∙ accepted bs gs s.lawful s.written
 
 -- ---- so a file says one list of guards at most
 
 pub says-unique : OneList
 says-unique bs gs hs s t =
-    let a : outcome bs ≡ some gs = complete bs gs s in
-    let b : outcome bs ≡ some hs = complete bs hs t in
+    let a : outcome bs ≡ Some gs = complete bs gs s in
+    let b : outcome bs ≡ Some hs = complete bs hs t in
     cc

@@ -7,7 +7,10 @@ use native.Mathlib.Omega.{arith}
 use Prim.Native.Nat.{ℕ}
 use Rattle.demand.specs.Tests.{first_refusal}
 use Rattle.guard_file.specs.File.{header, FileSays, SaysNothing}
-use Rattle.guard_file.specs.Inside.Building.{nothing, outcome}
+use Rattle.std.specs.Prelude.{None}
+use Rattle.text.specs.Reasons.{reason}
+use Rattle.text.proofs.Reasons.{reason-none}
+use Rattle.guard_file.specs.Inside.Building.{outcome}
 use Rattle.guard_file.specs.Page.{Told, told_of, lines_of, PageSays}
 use Rattle.guard_file.specs.declared.Output.{Output}
 use Rattle.guards.specs.Guards.{guard_refusal, guard_tests}
@@ -46,12 +49,12 @@ module _ (page page' : List ℕ) (out : Output) (p : PageSays mixed_file page pa
   unfolding decimal guard_refusal guard_tests first_refusal
   mixed-lines = ap lines_of only
 
-  pub mixed-accepted : out.refusal ≡ 0
+  pub mixed-accepted : out.refusal ≡ None
   unfolding guard_refusal guard_tests first_refusal
-  mixed-accepted = p.refusal ∙ ap (λ (t : Told). t.refused.number) only
+  mixed-accepted = p.refusal ∙ ap (λ (t : Told). reason t.refused.number) only ∙ sym reason-none
 
 -- A bursty guard has no setup, a strict one no n; a number has no leading zero.
-silent : (bs : List ℕ) → outcome bs ≡ nothing → SaysNothing bs
+silent : (bs : List ℕ) → outcome bs ≡ None → SaysNothing bs
 silent bs e gs s = never ⊥ gs (sym e ∙ complete bs gs s)
 
 pub setup-of-bursty : SaysNothing (header ++ crlf ++ ascii "bursty,1,1,1,1,1,1,1,1,9")

@@ -1,70 +1,79 @@
--- Bytes laid over a page, one text behind the other.
-use mathlib.Core.List.{List, [], ◌∷◌, ◌++◌}
+-- Lines laid over a page, one behind the other.
+use mathlib.Core.List.{List, ◌++◌}
 use mathlib.Core.Path.{◌≡◌, sym, ap, ◌∙◌}
-use native.Mathlib.Nat.{add-zero}
-use native.Mathlib.Numerals.{add-one}
+use native.Mathlib.Nat.{zero-add}
 use native.Mathlib.Omega.{arith}
-use Prim.Native.Nat.{ℕ, suc, ◌+◌, ◌-◌, ◌≤◌, ◌<◌}
-use lib.ListN.{length, set, get_or, take, replicate, length-append, length-replicate}
-use lib.Seq.{take-append_seam, take-suc, length-take-le, sets-eq}
-use Rattle.guard_file.specs.Page.{laid, page_most}
-use Rattle.text.specs.Text.{text_most, text_of}
+use Prim.Native.Nat.{ℕ, ◌+◌, ◌*◌, ◌≤◌, ◌<◌}
+use lib.ListN.{length, take, get_or, length-append}
+use lib.Seq.{take-append_seam, sets-eq}
+use Rattle.guard_file.specs.Inside.Building.{guards_held}
+use Rattle.guard_file.specs.Inside.Pages.{guard_lines_by, guard_most, lines_up_to}
+use Rattle.guard_file.specs.Page.{laid, page_most, rows_heading}
+use Rattle.guard_file.proofs.Printed.{guard-lines-most, lines-most, lines_next}
+use Rattle.page.specs.Laid as over
+use Rattle.page.specs.Laid.{end_of}
+use Rattle.page.proofs.Laid.{end-room, lay-behind, laid-nothing, laid-length, laid-sets}
+use Rattle.text.specs.Text.{text_of}
 use Rattle.text.specs.declared.Text.{Text}
-
--- Behind what is laid more is laid.
-pub laid_more : (page : List ℕ) (at : ℕ) (bs cs : List ℕ) → laid (laid page at bs) (at + length bs) cs ≡ laid page at (bs ++ cs)
-laid_more page at [] cs = ap (λ (k : ℕ). laid page k cs) (add-zero at)
-laid_more page at (b ∷ bs) cs =
-    let place : at + suc (length bs) ≡ suc at + length bs = omega arith in
-    ap (λ (k : ℕ). laid (laid (set page at b) (suc at) bs) k cs) place ∙ laid_more (set page at b) (suc at) bs cs
-
--- One byte more of a list.
-pub laid_next : (page : List ℕ) (at : ℕ) (bytes : List ℕ) (i : ℕ) → i < length bytes
-    → set (laid page at (take i bytes)) (at + i) (get_or bytes i 0) ≡ laid page at (take (i + 1) bytes)
-laid_next page at bytes i h =
-    let long : length (take i bytes) ≡ i = length-take-le i bytes (omega arith) in
-    ap (λ (k : ℕ). set (laid page at (take i bytes)) (at + k) (get_or bytes i 0)) (sym long)
-    ∙ laid_more page at (take i bytes) (get_or bytes i 0 ∷ [])
-    ∙ ap (laid page at) (sym (take-suc bytes i 0 h))
-    ∙ ap (λ (k : ℕ). laid page at (take k bytes)) (sym (add-one i))
-
--- ---- a text
-
-module _ (bs : List ℕ) (text : Text) (e : text ≡ text_of bs) where
-  pub text-long : length bs ≤ text_most → length text.bytes ≡ text_most
-  text-long h =
-      ap (λ (x : Text). length x.bytes) e ∙ length-append bs (replicate (text_most - length bs) 0)
-      ∙ ap (λ (k : ℕ). length bs + k) (length-replicate {A = ℕ} (text_most - length bs) 0) ∙ omega arith
-
-  pub text-len : text.len ≡ length bs
-  text-len = ap (λ (x : Text). x.len) e
-
-  pub text-bytes : take text.len text.bytes ≡ bs
-  text-bytes = ap (λ (x : Text). take x.len x.bytes) e ∙ take-append_seam bs (replicate (text_most - length bs) 0)
-
--- ---- what a program writes of a page
+use Rattle.text.proofs.Writes.{text-bytes}
 
 -- The first bytes of the page are those that were laid there.
 pub laid-front : (page bs : List ℕ) → length page ≡ page_most → length bs ≤ page_most → take (length bs) (laid page 0 bs) ≡ bs
 laid-front page bs long few = ap (take (length bs)) (sets-eq bs page 0 (omega arith)) ∙ take-append_seam bs _
 
--- ---- a text behind others
+-- A text alone, from the start of the page on.
+pub only-laid : (start page : List ℕ) (r : ℕ) (bs : List ℕ) (text : Text) (bytes : List ℕ) → length start ≡ page_most → length bs ≤ page_most
+    → text ≡ text_of bs → bytes ≡ take text.len text.bytes
+    → (r ≡ end_of (length start) 0 (length bytes)) × (page ≡ over.laid start 0 bytes) → (page ≡ laid start 0 bs) × (r ≡ length bs)
+only-laid start page r bs text bytes long few line lent (er, ep) =
+    let said : bytes ≡ bs = lent ∙ text-bytes text bs line in (
+      ep ∙ ap (over.laid start 0) said ∙ laid-sets start bs 0 (omega (arith, long)),
+      er ∙ ap (λ (xs : List ℕ). end_of (length start) 0 (length xs)) said ∙ end-room start bs 0 (omega (arith, long)) ∙ zero-add (length bs),
+    )
 
--- A text that has room on the page, as laying it asks.
-pub text-room : (bs : List ℕ) (text : Text) (at : ℕ) → text ≡ text_of bs → length bs ≤ text_most → at + length bs ≤ page_most
-    → (at + text.len ≤ page_most) × (text.len ≤ text_most) × (length text.bytes ≡ text_most)
-text-room bs text at e few room = (omega (arith, text-len bs text e), omega (arith, text-len bs text e), text-long bs text e few)
+-- ---- the lines of guards
 
--- Behind the bytes bs, which were laid from `at` on and ended at `end`, those of a text: cs.
-pub text-laid : (start page page' : List ℕ) (at end r : ℕ) (bs cs : List ℕ) (text : Text)
-    → page ≡ laid start at bs → end ≡ at + length bs → text ≡ text_of cs
-    → (r ≡ end + text.len) × (page' ≡ laid page end (take text.len text.bytes))
-    → (r ≡ at + length (bs ++ cs)) × (page' ≡ laid start at (bs ++ cs))
-text-laid start page page' at end r bs cs text laid_so ends e added = (
-  omega (arith, added.0, text-len cs text e, length-append bs cs),
-  added.1
-      ∙ ap (laid page end) (text-bytes cs text e)
-      ∙ ap (λ (k : ℕ). laid page k cs) ends
-      ∙ ap (λ (xs : List ℕ). laid xs (at + length bs) cs) laid_so
-      ∙ laid_more start at bs cs,
-)
+module _ (start : List ℕ) (at : ℕ) (ns : List ℕ) where
+  abbrev pub Behind : ℕ → ℕ → List ℕ → Type 0
+  Behind k end page = (end ≡ at + length (lines_up_to ns k)) × (page ≡ over.laid start at (lines_up_to ns k))
+
+  pub lines-start : at ≤ length start → Behind 0 at start
+  unfolding lines_up_to
+  lines-start room = (omega arith, sym (laid-nothing start at room))
+
+  pub lines-more : at + guards_held * guard_most ≤ length start → (k end : ℕ) (page : List ℕ) → k < guards_held → Behind k end page
+      → (text : Text) (bytes : List ℕ) → text ≡ text_of (guard_lines_by (get_or ns (3 * k) 0) (get_or ns (3 * k + 1) 0) (get_or ns (3 * k + 2) 0))
+      → bytes ≡ take text.len text.bytes
+      → (r : ℕ) (p : List ℕ) → (r ≡ end_of (length page) end (length bytes)) × (p ≡ over.laid page end bytes) → Behind (k + 1) r p
+  lines-more room k end page h here text bytes line lent r p laid_so =
+      let i = get_or ns (3 * k) 0 in
+      let t = get_or ns (3 * k + 1) 0 in
+      let q = get_or ns (3 * k + 2) 0 in
+      let more = guard_lines_by i t q in
+      let said : bytes ≡ more = lent ∙ text-bytes text more line in
+      let behind =
+      lay-behind start at (lines_up_to ns k) more page end (omega (arith, lines-most ns k, guard-lines-most i t q)) here.0 here.1 r p (
+        laid_so.0 ∙ ap (λ (bs : List ℕ). end_of (length page) end (length bs)) said,
+        laid_so.1 ∙ ap (over.laid page end) said,
+      ) in
+      rw (lines_next ns k) behind
+
+-- ---- the heading, and what stands behind it
+
+module _ (start page : List ℕ) (at : ℕ) (long : length start ≡ page_most)
+    (first : (at ≡ end_of (length start) 0 (length rows_heading)) × (page ≡ over.laid start 0 rows_heading)) where
+  pub heading-ends : at ≡ length rows_heading
+  heading-ends = first.0 ∙ end-room start rows_heading 0 (omega (arith, long)) ∙ zero-add (length rows_heading)
+
+  pub page-long : length page ≡ page_most
+  page-long = ap length first.1 ∙ laid-length start rows_heading 0 (omega (arith, long)) ∙ long
+
+  pub rows-laid : (lines page' : List ℕ) (r : ℕ) → length lines ≤ guards_held * guard_most → (r ≡ at + length lines) × (page' ≡ over.laid page at lines)
+      → (r ≡ length (rows_heading ++ lines)) × (page' ≡ laid start 0 (rows_heading ++ lines))
+  rows-laid lines page' r few laid_so =
+      let fits : 0 + (length rows_heading + length lines) ≤ length start = omega (arith, long, few) in
+      let at-end : at ≡ 0 + length rows_heading = heading-ends ∙ sym (zero-add (length rows_heading)) in
+      let behind =
+      lay-behind start 0 rows_heading lines page at fits at-end first.1 r page'
+      (laid_so.0 ∙ sym (end-room page lines at (omega (arith, page-long, fits, at-end))), laid_so.1) in
+      (behind.0 ∙ zero-add (length (rows_heading ++ lines)), behind.1 ∙ laid-sets start (rows_heading ++ lines) 0 (omega (arith, length-append rows_heading lines, fits)))

@@ -11,13 +11,13 @@ use lib.ListN.{length, take, length-append}
 use lib.Seq.{length-sets}
 use Rattle.demand.specs.Tests.{pick}
 use Rattle.demand.proofs.Divide.{le-or-lt}
-use Rattle.guard_file.specs.Inside.Pages.{guard_lines_by}
+use Rattle.guard_file.specs.Inside.Pages.{guard_lines_by, guard_most}
 use Rattle.guard_file.specs.Page.{guard_lines, all_lines, rows_heading, rows_text, refused_text, refusal, first_refused, guards_most, refusal_of, Told, lines_by, lines_of, FileTold, laid, page_most, PageSays}
 use Rattle.guard_file.specs.declared.Output.{Output}
 use Rattle.guards.specs.Guards.{interrupt_cost, timer_cost, gap_of}
 use Rattle.guards.specs.declared.Guard.{Guard}
 use Rattle.guard_file.proofs.Laid.{laid-front}
-use Rattle.guard_file.proofs.Printed.{guard_most, guard-lines-most, refused-most}
+use Rattle.guard_file.proofs.Printed.{guard-lines-most, refused-most}
 use Rattle.text.proofs.Tests.{by}
 
 -- ---- the lines of any file have room on a page

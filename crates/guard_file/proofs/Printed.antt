@@ -5,8 +5,8 @@ use native.Mathlib.Numerals.{add-one}
 use native.Mathlib.Omega.{arith}
 use Prim.Native.Nat.{ℕ, zero, suc, ◌+◌, ◌*◌, ◌≤◌}
 use lib.ListN.{length, get_or, length-append}
-use Rattle.guard_file.specs.Inside.Pages.{guard_lines_by, lines_up_to}
-use Rattle.guard_file.specs.Page.{row_line, rows_heading, refused_text}
+use Rattle.guard_file.specs.Inside.Pages.{guard_lines_by, guard_most, lines_up_to}
+use Rattle.guard_file.specs.Page.{row_line, refused_text}
 use Rattle.text.specs.Ascii.{ascii, crlf}
 use Rattle.text.specs.Numbers.{comma, fields_of}
 use Rattle.text.specs.Text.{text_of, blank_text, puts_of}
@@ -15,10 +15,6 @@ use Rattle.text.proofs.Numbers.{fields-most}
 use Rattle.text.proofs.Writes.{puts-append, puts-blank}
 
 -- ---- how long they are
-
--- the most bytes of a guard's lines: two words of 7, two numbers of 20 digits for each, commas and line ends
-abbrev pub guard_most : ℕ
-guard_most = 104
 
 row-most : (c p : ℕ) → length (row_line c p) ≤ 52
 row-most c p = lined (fields_of (c ∷ p ∷ [])) (fields-most (c ∷ p ∷ []))
@@ -55,9 +51,6 @@ unfolding lines_up_to
 lines_next ns k = rw (add-one k)
 
 -- ---- the chains of calls that write them
-
-pub heading-text : (text : Text) → text ≡ puts_of blank_text rows_heading → text ≡ text_of rows_heading
-heading-text text e = e ∙ puts-blank rows_heading (omega arith)
 
 -- Five parts in one.
 five : (t : Text) (a b c d e : List ℕ) → puts_of (puts_of (puts_of (puts_of (puts_of t a) b) c) d) e ≡ puts_of t (a ++ (b ++ (c ++ (d ++ e))))

@@ -13,7 +13,7 @@
 --   FileTold bs told       told is what the file bs comes to: 12 before all where it breaks the layout
 --   page_most               == the bytes of a page
 --   laid page at bs        == the page with the bytes bs stored from place `at` on; the rest stays
---   PageSays bs page page' out   of the file bs page' is what is written over page, and out its length and the number of the refusal
+--   PageSays bs page page' out   of the file bs page' is what is written over page, and out its length and the refusal
 --   OnePage                a file has one such outcome and no other
 use Rattle.std.specs.Prelude.{List, [], ◌∷◌, ◌++◌, ◌⊎◌, ◌≡◌, ℕ, suc, eqb, ltb, length}
 use Rattle.std.proofs.lemmas.List.Edits.{sets}
@@ -23,6 +23,7 @@ use Rattle.guard_file.specs.declared.Output.{Output}
 use Rattle.guards.specs.Guards.{guard_refusal, interrupt_cost, timer_cost, gap_of}
 use Rattle.guards.specs.declared.Guard.{Guard}
 use Rattle.text.specs.Ascii.{ascii, crlf}
+use Rattle.text.specs.Reasons.{reason}
 use Rattle.text.specs.Numbers.{comma, fields_of}
 
 -- ---- the lines
@@ -97,7 +98,7 @@ pub record PageSays (bs page page' : List ℕ) (out : Output) : Type 0 where
   pub figures : FileTold bs told
   pub written : page' ≡ laid page 0 (lines_of told)
   pub counted : out.len ≡ length (lines_of told)
-  pub refusal : out.refusal ≡ told.refused.number
+  pub refusal : out.refusal ≡ reason told.refused.number
 
 abbrev pub OnePage : Type 0
 OnePage = (bs page a b : List ℕ) (x y : Output) → PageSays bs page a x → PageSays bs page b y → (a ≡ b) × (x ≡ y)

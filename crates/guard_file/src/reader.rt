@@ -1,4 +1,4 @@
-// The reader: bytes in, the rows of up to 8 guards and the first refusal among them out, or the word that the file breaks the layout.
+// The reader: bytes in, the rows of up to 8 guards and the first refusal among them out, or the refusal of a file that breaks the layout.
 ghost use Rattle.std.specs.Prelude.{◌≡◌, ◌<◌, min};
 ghost use Rattle.guard_file.specs.Inside.Building.{guards_held, bare, stored, pushed, fed, sheet_at_end, sheet_for, outcome};
 ghost use Rattle.guard_file.specs.Inside.Handed.{number_most, handed};
@@ -7,8 +7,8 @@ ghost use Rattle.guard_file.specs.Inside.Steps.{guard_of};
 use crate::steps::{FIELDS, Row, State};
 use crate::words::Kind;
 use crate::{FILE_MOST, steps};
-use demand::table::wide;
-use guards::{Answer, Guard};
+use demand::refusal::Refusal;
+use guards::{Guard, Pair};
 
 // The most guards of a file: two handler rows each.
 pub const GUARDS_MOST: usize = 8;
@@ -16,29 +16,28 @@ pub const GUARDS_MOST: usize = 8;
 // Three numbers a guard: both costs and the period.
 pub const NUMBERS: usize = 3 * GUARDS_MOST;
 
-// The greatest number that a guard holds.
-const NUMBER_MOST: u64 = 4_294_967_295;
-
-// What a file says: how many guards, 9 for more than 8; the rows of the first of them; the first refusal among these and its place. Or
-// that it breaks the layout.
+// The first guard that is refused.
 #[derive(Clone, Copy)]
-pub struct Sheet {
-    pub ok: bool,
-    pub count: usize,
-    pub numbers: [u64; NUMBERS],
-    pub refusal: u32,
+pub struct Refused {
+    pub refusal: Refusal,
     pub place: usize,
 }
 
-fn bare(ok: bool) -> Sheet
-    ensures { result ≡ bare ok }
+// What a file says: how many guards, 9 for more than 8; the rows of the first of them; and the first refusal among these.
+#[derive(Clone, Copy)]
+pub struct Sheet {
+    pub count: usize,
+    pub numbers: [u64; NUMBERS],
+    pub first: Option<Refused>,
+}
+
+fn bare() -> Sheet
+    ensures { result ≡ bare }
 {
     Sheet {
-        ok,
         count: 0,
         numbers: [0; NUMBERS],
-        refusal: 0,
-        place: 0,
+        first: None,
     }
 }
 
@@ -46,11 +45,7 @@ fn bare(ok: bool) -> Sheet
 fn capped(v: u64) -> u32
     ensures { result ≡ min v number_most }
 {
-    if v < NUMBER_MOST {
-        v as u32
-    } else {
-        4_294_967_295
-    }
+    v.min(u64::from(u32::MAX)) as u32
 }
 
 // The guard of a row of these numbers.
@@ -81,19 +76,13 @@ fn guard_of(kind: Kind, row: Row) -> Guard
 }
 
 // The rows of the guard at place k.
-fn store(
-    mut numbers: [u64; NUMBERS],
-    k: usize,
-    interrupt: u64,
-    timer: u64,
-    period: u64,
-) -> [u64; NUMBERS]
+fn store(mut numbers: [u64; NUMBERS], k: usize, pair: Pair) -> [u64; NUMBERS]
     requires { k < guards_held }
-    ensures { result ≡ stored numbers k interrupt timer period }
+    ensures { result ≡ stored numbers k pair.interrupt pair.timer pair.period }
 {
-    numbers[3 * k] = interrupt;
-    numbers[3 * k + 1] = timer;
-    numbers[3 * k + 2] = period;
+    numbers[3 * k] = u64::from(pair.interrupt);
+    numbers[3 * k + 1] = u64::from(pair.timer);
+    numbers[3 * k + 2] = u64::from(pair.period);
     numbers
 }
 
@@ -101,33 +90,30 @@ fn store(
 fn push(sheet: Sheet, guard: Guard) -> Sheet
     ensures { result ≡ pushed sheet guard }
 {
-    let mut s = sheet;
-    let k = s.count;
-    let refusal = s.refusal;
+    let k = sheet.count;
     if GUARDS_MOST <= k {
-        s.count = GUARDS_MOST + 1;
-        return s;
+        return Sheet {
+            count: GUARDS_MOST + 1,
+            ..sheet
+        };
     }
-    s.count = k + 1;
-    if 0 < refusal {
-        return s;
+    if sheet.first.is_some() {
+        return Sheet {
+            count: k + 1,
+            ..sheet
+        };
     }
     match guards::rows(guard) {
-        Answer::Rows {
-            interrupt,
-            timer,
-            period,
-        } => {
-            let numbers = s.numbers;
-            let more = store(numbers, k, wide(interrupt), wide(timer), wide(period));
-            s.numbers = more;
-            s
-        }
-        Answer::Refused { number } => {
-            s.refusal = number;
-            s.place = k;
-            s
-        }
+        Ok(pair) => Sheet {
+            count: k + 1,
+            numbers: store(sheet.numbers, k, pair),
+            ..sheet
+        },
+        Err(refusal) => Sheet {
+            count: k + 1,
+            first: Some(Refused { refusal, place: k }),
+            ..sheet
+        },
     }
 }
 
@@ -146,39 +132,36 @@ fn feed(sheet: Sheet, st: State, row: Row, b: u8) -> Sheet
 }
 
 // The sheet at the end of the file: a last line that lacks its CRLF is read as if it had it.
-fn close(sheet: Sheet, st: State, row: Row) -> Sheet
+fn close(sheet: Sheet, st: State, row: Row) -> Result<Sheet, Refusal>
     ensures { result ≡ sheet_at_end sheet st row.values }
 {
     let cr = steps::step(st, b'\r');
     let lf = steps::step(cr, b'\n');
     if steps::is_start(lf) {
-        feed(sheet, cr, steps::note(row, cr), b'\n')
+        Ok(feed(sheet, cr, steps::note(row, cr), b'\n'))
     } else if steps::is_start(st) {
-        sheet
+        Ok(sheet)
     } else {
-        bare(false)
+        Err(Refusal::FileMalformed)
     }
 }
 
 // Reads a whole file.
-pub fn read(bytes: &[u8]) -> Sheet
+pub fn read(bytes: &[u8]) -> Result<Sheet, Refusal>
     ensures { result ≡ sheet_for (outcome bytes.now) }
 {
     if FILE_MOST < bytes.len() {
-        return bare(false);
+        return Err(Refusal::FileMalformed);
     }
-    let mut sheet = bare(true);
+    let mut sheet = bare();
     let mut row = Row {
         values: [0; FIELDS],
     };
     let mut st = State::Head(0);
-    let mut i: usize = 0;
-    while i < bytes.len() {
-        let b = bytes[i];
-        sheet = feed(sheet, st, row, b);
-        st = steps::step(st, b);
+    for b in bytes {
+        sheet = feed(sheet, st, row, *b);
+        st = steps::step(st, *b);
         row = steps::note(row, st);
-        i += 1;
     }
     close(sheet, st, row)
 }

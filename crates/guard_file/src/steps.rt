@@ -45,8 +45,9 @@ pub enum State {
 fn in_head(k: usize, b: u8) -> State
     ensures { result ≡ after_byte (State.Head k) b }
 {
-    if k < words::HEADER_LEN {
-        if b == words::header_byte(k) {
+    let header = words::header();
+    if k < header.len() {
+        if b == header[k] {
             State::Head(k + 1)
         } else {
             State::Broken
@@ -85,7 +86,7 @@ fn in_name(kind: Kind, k: usize, b: u8) -> State
     ensures { result ≡ after_byte (State.Name kind k) b }
 {
     if k < words::NAME_LEN {
-        if b == words::letter(kind, k) {
+        if b == text::byte_at(words::name(kind), k) {
             State::Name(kind, k + 1)
         } else {
             State::Broken
@@ -120,7 +121,7 @@ fn in_first(kind: Kind, j: usize, b: u8) -> State
 {
     if words::given(kind, j) {
         if digits::is_digit(b) {
-            State::Digits(kind, j, digits::worth(b) as u64)
+            State::Digits(kind, j, u64::from(digits::worth(b)))
         } else {
             State::Broken
         }
@@ -163,10 +164,7 @@ pub fn step(st: State, b: u8) -> State
 pub fn is_start(st: State) -> bool
     ensures { result ≡ is_start st }
 {
-    match st {
-        State::Start => true,
-        _ => false,
-    }
+    matches!(st, State::Start)
 }
 
 // The row with the number at which the reader stands.

@@ -1,5 +1,5 @@
 // The fixed words of a file: its header, and the names of its rows.
-ghost use Rattle.std.specs.Prelude.{◌≡◌, get_or};
+ghost use Rattle.std.specs.Prelude.{◌≡◌};
 ghost use Rattle.guard_file.specs.File.{header};
 ghost use Rattle.guard_file.specs.Inside.Steps.{word_of, given};
 
@@ -10,31 +10,21 @@ pub enum Kind {
     Burst,
 }
 
-pub const HEADER_LEN: usize = 50;
-
-const HEADER: [u8; HEADER_LEN] = *b"guard,n,int,flip,setup,work,expire,count,clear,gap";
+pub fn header() -> &'static [u8]
+    ensures { result.now ≡ header }
+{
+    b"guard,n,int,flip,setup,work,expire,count,clear,gap"
+}
 
 // Both names have so many letters.
 pub const NAME_LEN: usize = 6;
 
-const STRICT: [u8; NAME_LEN] = *b"strict";
-
-const BURSTY: [u8; NAME_LEN] = *b"bursty";
-
-// The byte at a place of the header, or 0 past its end.
-pub fn header_byte(k: usize) -> u8
-    ensures { result ≡ get_or header k 0 }
-{
-    if k < HEADER_LEN { HEADER[k] } else { 0 }
-}
-
-// The letter at a place of a kind's name, or 0 past its end.
-pub fn letter(kind: Kind, k: usize) -> u8
-    ensures { result ≡ get_or (word_of kind) k 0 }
+pub fn name(kind: Kind) -> &'static [u8]
+    ensures { result.now ≡ word_of kind }
 {
     match kind {
-        Kind::Single => { if k < NAME_LEN { STRICT[k] } else { 0 } }
-        Kind::Burst => { if k < NAME_LEN { BURSTY[k] } else { 0 } }
+        Kind::Single => b"strict",
+        Kind::Burst => b"bursty",
     }
 }
 

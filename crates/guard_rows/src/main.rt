@@ -9,34 +9,18 @@ use guard_file::FILE_MOST;
 const READ_MOST: usize = FILE_MOST + 1;
 
 fn main(rt: HostRuntime) {
-    let mut input = [0u8; READ_MOST];
-    let reading = console::read_whole(&mut rt.stdin(), &mut input);
-    let n = reading.count;
-    let whole = reading.whole;
-    if whole {
-        answer(&rt, &input[..n]);
-    } else {
-        console::say(
-            &rt.stderr(),
-            b"guards: standard input could not be read to its end\n",
-        );
-    }
+    let mut room = [0u8; READ_MOST];
+    console::with_input(&rt, b"guards", &mut room, |file| answer(&rt, file));
 }
 
 // Prints the lines of a whole file.
 fn answer(rt: &HostRuntime, file: &[u8]) {
     let mut page = guard_file::blank();
     let output = guard_file::answer(file, &mut page);
-    let n = output.len;
-    let refusal = output.refusal;
-    let written = console::say(&rt.stdout(), &page[..n]);
-    if !written {
-        console::say(
-            &rt.stderr(),
-            b"guards: the lines could not be written whole\n",
-        );
-    }
-    if 0 < refusal {
-        console::explain(&rt.stderr(), refusal);
-    }
+    console::answer(
+        rt,
+        &page[..output.len],
+        b"guards: the lines could not be written whole\n",
+        output.refusal,
+    );
 }

@@ -19,18 +19,8 @@ const PATH_MOST: usize = 4096;
 const SPAN_MOST: usize = 16;
 
 fn main(rt: HostRuntime) {
-    let mut table = [0u8; TABLE_MOST];
-    let reading = console::read_whole(&mut rt.stdin(), &mut table);
-    let n = reading.count;
-    let whole = reading.whole;
-    if whole {
-        with_schedule(&rt, &table[..n]);
-    } else {
-        console::say(
-            &rt.stderr(),
-            b"judge: standard input could not be read to its end\n",
-        );
-    }
+    let mut room = [0u8; TABLE_MOST];
+    console::with_input(&rt, b"judge", &mut room, |table| with_schedule(&rt, table));
 }
 
 // Reads the schedule file that the first argument names.
@@ -51,16 +41,14 @@ fn with_schedule(rt: &HostRuntime, table: &[u8]) {
 // Reads the schedule from its opened file.
 fn from_file(rt: &HostRuntime, table: &[u8], mut file: File) {
     let mut schedule = [0u8; SCHEDULE_MOST];
-    let reading = console::read_whole(&mut file, &mut schedule);
-    let n = reading.count;
-    let whole = reading.whole;
-    if whole {
-        answer(rt, table, &schedule[..n]);
-    } else {
-        console::say(
-            &rt.stderr(),
-            b"judge: the schedule file could not be read to its end\n",
-        );
+    match console::read_whole(&mut file, &mut schedule) {
+        Some(n) => answer(rt, table, &schedule[..n]),
+        None => {
+            console::say(
+                &rt.stderr(),
+                b"judge: the schedule file could not be read to its end\n",
+            );
+        }
     }
 }
 
@@ -70,15 +58,10 @@ fn answer(rt: &HostRuntime, table: &[u8], schedule: &[u8]) {
     let k = console::argument(rt, 2, &mut said);
     let span = schedule_sheet::spans::span_said(&said[..k]);
     let output = schedule_sheet::judged(table, schedule, span);
-    let refusal = output.refusal;
-    let written = console::print(&rt.stdout(), output.text);
-    if !written {
-        console::say(
-            &rt.stderr(),
-            b"judge: the lines could not be written whole\n",
-        );
-    }
-    if 0 < refusal {
-        console::explain(&rt.stderr(), refusal);
-    }
+    console::answer(
+        rt,
+        output.text.as_bytes(),
+        b"judge: the lines could not be written whole\n",
+        output.refusal,
+    );
 }

@@ -1,5 +1,4 @@
 -- Laws of schedule files that are judged.
 pub mod Printed
 pub mod Whole
-pub mod Said
 pub mod SpansRead

@@ -1,45 +1,39 @@
 -- The whole: the output meets the promise, and the promise allows no other.
 use mathlib.Core.Bool.{Bool, true, false}
 use mathlib.Core.List.{List, [], ◌∷◌}
-use mathlib.Core.Logic.{inl, inr}
-use mathlib.Core.Path.{◌≡◌, refl, sym, ap, subst, ◌∙◌}
+use mathlib.Core.Logic.{◌⊎◌, inl, inr}
+use mathlib.Core.Path.{◌≡◌, sym, ap, subst, ◌∙◌}
 use native.Mathlib.Omega.{arith}
-use borrow.Author.Tests.{eq-eqb, ne_eqb}
-use lib.ListN.{take}
 use Prim.Native.Nat.{ℕ, ◌<◌}
-use Rattle.demand.specs.Refusals.{table_refusal}
-use Rattle.demand.specs.Tests.{pick}
+use Rattle.std.specs.Prelude.{Option, Some, None, Result, Ok, Err}
+use Rattle.std.specs.Result.{result_err}
+use Rattle.demand.specs.Numbered.{number_of}
+use Rattle.demand.specs.declared.refusal.Refusal.{Refusal}
+use Rattle.demand.specs.declared.refusal.Refusal.TheVariants.{FileMalformed}
 use Rattle.demand.specs.declared.table.Kind.TheVariants.{Task, Handler}
 use Rattle.layout.specs.File as table
-use Rattle.layout.specs.Refusals.{refusal_in}
+use Rattle.layout.specs.Refusals.{Misplaces, TableIn}
 use Rattle.layout.specs.Table as lists
 use Rattle.layout.specs.Table.{list_of, misplaced}
 use Rattle.layout.specs.declared.reader.Table.{Table}
 use Rattle.layout.proofs.File as table-laws
-use Rattle.layout.proofs.Table.{listed, flat-listed}
+use Rattle.layout.proofs.Table.{table-lists, table-refused}
 use Rattle.schedule_file.specs.File.{Entry}
-use Rattle.schedule_file.specs.Schedule.{numbers_of, ReadSays}
+use Rattle.schedule_file.specs.Schedule.{numbers_of, listed, ReadSays}
 use Rattle.schedule_file.specs.declared.reader.Schedule.{Schedule}
 use Rattle.schedule_file.proofs.File.{says-unique}
-use Rattle.schedule_file.proofs.Read.{ReadCase, said, unsaid, read-cases, filled-take}
+use Rattle.schedule_file.proofs.Read.{read-said, read-broken}
 use Rattle.schedule_sheet.specs.Printed.{printed}
 use Rattle.schedule_sheet.specs.Whole.{broken_refusal, ScheduleFigures, TableFigures, FileFigures, output_of, JudgedSays, OneJudgement}
-use Rattle.schedule_sheet.specs.declared.Output.{Output}
 use Rattle.segments.specs.Promise.{Figures, figures, refusal_of, Word}
 use Rattle.segments.specs.Promise.{SaysBy, Says, JudgeSays, judge_refusal}
 use Rattle.segments.specs.Promise.Word.{accepted, broken, refused}
-use Rattle.segments.specs.declared.Answer.{Answer}
-use Rattle.segments.specs.declared.Answer.TheVariants as answer
 use Rattle.segments.proofs.Answers as judged
 use Rattle.segments.proofs.Refusals.{torn-refusal}
-use Rattle.text.specs.Text.{Fits}
-use Rattle.text.proofs.Writes.{text-fits}
-
-clash : (P : Type 0) → true ≡ false → P
-clash P e =
-    let z : ◌≡◌ {A = ℕ} 0 1 = cc in
-    let f : ⊥ = omega arith in
-    absurd f
+use Rattle.text.specs.Reasons.{reason}
+use Rattle.text.specs.Text.{text_of}
+use Rattle.text.specs.declared.Text.{Text}
+use Rattle.text.proofs.Reasons.{reason-none, reason-some}
 
 -- ---- the schedule file
 
@@ -56,82 +50,59 @@ torn-figures t h L g = go g.word
     go broken says = absurd (omega (arith, number.1, says.answered))
     go refused says = says.figures ∙ ap refusal_of number.0
 
-module _ (t h bs : List ℕ) (L : ℕ) (r : Schedule) (a : Answer) (read : ReadSays bs r) where
+module _ (t h bs : List ℕ) (L : ℕ) (a : Result (Option ℕ) Refusal) where
   -- Broken: a list that is not in fours was judged.
-  pub schedule-torn : r.ok ≡ false → JudgeSays t h (0 ∷ []) L a → ScheduleFigures t h bs L (figures a)
+  pub schedule-torn : (e : Refusal) → ReadSays bs (Err e) → JudgeSays t h (0 ∷ []) L a → ScheduleFigures t h bs L (figures a)
   unfolding ScheduleFigures JudgeSays
-  schedule-torn off says = go (read-cases bs r read)
-    where
-      go : ReadCase bs r → ScheduleFigures t h bs L (figures a)
-      go (said es file e) = clash _ (sym (ap (λ (x : Schedule). x.ok) e) ∙ off)
-      go (unsaid none e) = inr (none, torn-figures t h L (figures a) says)
+  schedule-torn e read says = inr ((read-broken bs e read).0, torn-figures t h L (figures a) says)
 
   -- Read: its segments were.
-  pub schedule-read : r.ok ≡ true → JudgeSays t h (take r.len r.numbers) L a → ScheduleFigures t h bs L (figures a)
+  pub schedule-read : (r : Schedule) (s : List ℕ) → ReadSays bs (Ok r) → s ≡ listed r → JudgeSays t h s L a → ScheduleFigures t h bs L (figures a)
   unfolding ScheduleFigures JudgeSays
-  schedule-read on says = go (read-cases bs r read)
-    where
-      go : ReadCase bs r → ScheduleFigures t h bs L (figures a)
-      go (said es file e) =
-          inl (
-            es,
-            file,
-            subst (λ (s : List ℕ). Says t h s L (figures a))
-                (ap (λ (x : Schedule). take x.len x.numbers) e ∙ filled-take (numbers_of es)) says,
-          )
-      go (unsaid none e) = clash _ (sym on ∙ ap (λ (x : Schedule). x.ok) e)
+  schedule-read r s read lent says =
+      let said = read-said bs r read in
+      inl (said.0, said.1, subst (λ (z : List ℕ). Says t h z L (figures a)) (lent ∙ said.2) says)
 
--- ---- the answer to a table, by whether a handler has a deadline
+-- ---- the answer to a table file
 
-module _ (t h bs : List ℕ) (L : ℕ) (a : Answer) where
-  pub placed-answer : (m : Bool) → m ≡ false → ScheduleFigures t h bs L (figures a) → TableFigures m t h bs L (figures a)
-  unfolding TableFigures
-  placed-answer true e says = clash _ e
-  placed-answer false e says = says
-
-  misplaced-answer : (m : Bool) (n : ℕ) → m ≡ true → n ≡ refusal_in true t h → a ≡ answer.Refused n → TableFigures m t h bs L (figures a)
+module _ (tb bs : List ℕ) (L : ℕ) where
+  -- What is refused,
+  pub file-refused : (e : Refusal) → TableIn tb (Err e) → FileFigures tb bs L (figures (Err e))
   unfolding TableFigures figures
-  misplaced-answer true n e number told = ap figures told ∙ ap refusal_of number
-  misplaced-answer false n e number told = clash _ (sym e)
+  file-refused e told = go (table-refused tb e told)
+    where
+      go : Misplaces tb e ⊎ (table.SaysNothing tb × (e ≡ FileMalformed)) → FileFigures tb bs L (figures (Err e))
+      go (inl m) =
+          inl (
+            m.rows,
+            m.says,
+            subst (λ (b : Bool). TableFigures b (list_of Task m.rows) (list_of Handler m.rows) bs L (figures (Err e))) (sym m.placed)
+                (ap refusal_of m.number),
+          )
+      go (inr n) = inr (n.0, ap (λ (x : Refusal). refusal_of (number_of x)) n.1)
 
-  -- Where the table's own refusal is k: 13, where that is none,
-  pub misplaced-thirteen : (m : Bool) (k : ℕ) → m ≡ true → k ≡ table_refusal t h → k ≡ 0 → a ≡ answer.Refused 13
-      → TableFigures m t h bs L (figures a)
-  misplaced-thirteen m k e own none told =
-      misplaced-answer m 13 e (sym (ap (λ (b : Bool). pick b 13 (table_refusal t h)) (eq-eqb _ _ (sym own ∙ none)))) told
+  -- and what is judged of the lists that are lent.
+  pub file-judged : (t : Table) (ts hs : List ℕ) (r : Result (Option ℕ) Refusal) → TableIn tb (Ok t)
+      → ts ≡ lists.listed t.tasks → hs ≡ lists.listed t.handlers → ScheduleFigures ts hs bs L (figures r) → FileFigures tb bs L (figures r)
+  unfolding TableFigures
+  file-judged t ts hs r told tasks handlers says =
+      let l = table-lists tb t told in
+      let lent : ScheduleFigures (list_of Task l.rows) (list_of Handler l.rows) bs L (figures r) =
+      subst (λ (s : List ℕ). ScheduleFigures s (list_of Handler l.rows) bs L (figures r)) (tasks ∙ l.tasks)
+      (subst (λ (s : List ℕ). ScheduleFigures ts s bs L (figures r)) (handlers ∙ l.handlers) says) in
+      inl (l.rows, l.says, subst (λ (b : Bool). TableFigures b (list_of Task l.rows) (list_of Handler l.rows) bs L (figures r)) (sym l.placed) lent)
 
-  -- and else that.
-  pub misplaced-own : (m : Bool) (k : ℕ) → m ≡ true → k ≡ table_refusal t h → (k ≡ 0 → ⊥) → a ≡ answer.Refused k
-      → TableFigures m t h bs L (figures a)
-  misplaced-own m k e own some told =
-      misplaced-answer m k e (own ∙ sym (ap (λ (b : Bool). pick b 13 (table_refusal t h)) (ne_eqb _ _ (λ z. some (own ∙ z))))) told
+reason-of : (r : Result (Option ℕ) Refusal) → result_err r ≡ reason (figures r).code
+unfolding figures
+reason-of (Ok None) = reason-none
+reason-of (Ok (Some tick)) = reason-none
+reason-of (Err e) = reason-some e
 
--- ---- the output meets the promise
-
-module _ (tb bs : List ℕ) (L : ℕ) (t : Table) (out : Output) where
-  -- A table file that breaks its layout.
-  pub broken-judged : lists.ReadSays tb t → t.ok ≡ false → out ≡ output_of (figures (answer.Refused 12)) → JudgedSays tb bs L out
-  unfolding lists.ReadSays figures
-  broken-judged (inl r) off e = clash _ (sym (ap (λ (x : Table). x.ok) r.2) ∙ off)
-  broken-judged (inr r) off e = record { told = refusal_of 12; figures = inr (r.0, refl); written = e }
-
-  -- One that is read.
-  pub table-judged : lists.ReadSays tb t → t.ok ≡ true → (a : Answer)
-      → TableFigures t.misplaced (listed t.tasks) (listed t.handlers) bs L (figures a) → out ≡ output_of (figures a)
-      → JudgedSays tb bs L out
-  unfolding lists.ReadSays
-  table-judged (inl r) ok a says e =
-      let deadline : t.misplaced ≡ misplaced r.0 = ap (λ (x : Table). x.misplaced) r.2 in
-      let tasks : listed t.tasks ≡ list_of Task r.0 =
-      ap (λ (x : Table). listed x.tasks) r.2 ∙ flat-listed (list_of Task r.0) in
-      let handlers : listed t.handlers ≡ list_of Handler r.0 =
-      ap (λ (x : Table). listed x.handlers) r.2 ∙ flat-listed (list_of Handler r.0) in
-      let told : TableFigures (misplaced r.0) (list_of Task r.0) (list_of Handler r.0) bs L (figures a) =
-      subst (λ (m : Bool). TableFigures m (list_of Task r.0) (list_of Handler r.0) bs L (figures a)) deadline
-      (subst (λ (s : List ℕ). TableFigures t.misplaced (list_of Task r.0) s bs L (figures a)) handlers
-      (subst (λ (s : List ℕ). TableFigures t.misplaced s (listed t.handlers) bs L (figures a)) tasks says)) in
-      record { told = figures a; figures = inl (r.0, r.1, told); written = e }
-  table-judged (inr r) ok a says e = clash _ (sym ok ∙ ap (λ (x : Table). x.ok) r.1)
+-- What is written of it.
+pub judged-says : (tb bs : List ℕ) (L : ℕ) (r : Result (Option ℕ) Refusal) (text : Text) (refusal : Option Refusal) → FileFigures tb bs L (figures r)
+    → text ≡ text_of (printed (figures r)) → refusal ≡ result_err r → JudgedSays tb bs L (record { text = text; refusal = refusal })
+judged-says tb bs L r text refusal told lines e =
+    record { told = figures r; figures = told; written = λ i. record { text = lines i; refusal = (e ∙ reason-of r) i } }
 
 -- ---- and no other does
 
@@ -162,7 +133,3 @@ file-unique tb bs L f g (inr a) (inr b) = a.1 ∙ sym b.1
 pub judged-unique : OneJudgement
 judged-unique tb bs L a b s t =
     s.written ∙ ap output_of (file-unique tb bs L s.told t.told s.figures t.figures) ∙ sym t.written
-
--- What a program writes of it.
-pub judged-fits : (tb bs : List ℕ) (L : ℕ) (out : Output) → JudgedSays tb bs L out → Fits out.text
-judged-fits tb bs L out s = text-fits (printed s.told) out.text (ap (λ (o : Output). o.text) s.written)

@@ -3,7 +3,7 @@
 --   ScheduleFigures t h bs L g   g are the figures of the schedule file bs: what `judge` promises of the segments that it says
 --   TableFigures m t h bs L g    and, where m says that a handler has a deadline, 13, unless a lower number applies
 --   FileFigures tb bs L g        and of the table that the file tb says; 12 comes before all
---   output_of g                 == what is written of the figures g: their two lines, and the number of the refusal
+--   output_of g                 == what is written of the figures g: their two lines, and the refusal
 --   JudgedSays tb bs L out     out is what is written of the two files and the span
 --   OneJudgement               they have one output and no other: a statement about JudgedSays
 use Rattle.std.specs.Prelude.{Bool, true, false, List, ◌⊎◌, ◌≡◌, ℕ, eqb}
@@ -17,6 +17,7 @@ use Rattle.schedule_file.specs.Schedule.{numbers_of}
 use Rattle.schedule_sheet.specs.Printed.{printed}
 use Rattle.schedule_sheet.specs.declared.Output.{Output}
 use Rattle.segments.specs.Promise.{Figures, refusal_of, Says}
+use Rattle.text.specs.Reasons.{reason}
 use Rattle.text.specs.Text.{text_of}
 use Rattle.verdict.specs.Promise.{verdict_refusal}
 
@@ -37,7 +38,7 @@ FileFigures tb bs L g =
     ⊎ (table.SaysNothing tb × (g ≡ refusal_of 12))
 
 abbrev pub output_of : Figures → Output
-output_of g = record { text = text_of (printed g); refusal = g.code }
+output_of g = record { text = text_of (printed g); refusal = reason g.code }
 
 pub record JudgedSays (tb bs : List ℕ) (L : ℕ) (out : Output) : Type 0 where
   pub told : Figures

@@ -5,7 +5,7 @@ use std::io::Stdout;
 
 // One line: the number, then its words.
 fn say(out: Stdout, number: u32) {
-    console::say_number(&out, number as u64);
+    console::say_number(&out, u64::from(number));
     console::say(&out, b": ");
     console::print(&out, text::english::line(number));
     console::say(&out, b"\n");
@@ -13,10 +13,8 @@ fn say(out: Stdout, number: u32) {
 
 fn main(rt: HostRuntime) {
     let out = rt.stdout();
-    let mut number = 0;
-    while number < 21 {
+    for number in 0..21 {
         say(out, number);
-        number += 1;
     }
-    say(out, 4294967295);
+    say(out, u32::MAX);
 }

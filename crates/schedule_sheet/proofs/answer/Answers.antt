@@ -1,18 +1,11 @@
-use mathlib.Core.Path.{refl}
-use Rattle.schedule_sheet.proofs.Whole.{placed-answer, misplaced-thirteen, misplaced-own}
+use Rattle.std.proofs.lemmas.Result.{err_from_is_err_and}
+use Rattle.schedule_sheet.proofs.Whole.{file-refused, file-judged}
 use Rattle.schedule_sheet.proofs.answer.Goals as goal
 
-pub returns-then-not-misplaced : goal.returns-then-not-misplaced
-returns-then-not-misplaced c = placed-answer _ _ _ _ _ _ (c.if-not-misplaced.true) c.of_schedule.ensures
+pub returns-in_err-read : goal.returns-in_err-read
+returns-in_err-read c =
+    let p = err_from_is_err_and c.from_residual.result c.from_residual.ensures.1 in
+    rw (p.1, p.2) (file-refused _ _ _ _ c.in_err-read.ensures)
 
-pub returns-then-number-eq0 : goal.returns-then-number-eq0
-returns-then-number-eq0 c =
-    let x = c.args in
-    misplaced-thirteen _ _ x.schedule.now x.span _ _ _ (c.if-not-misplaced.false) c.of_table-number.ensures
-    c.if-number-eq0.true refl
-
-pub returns-else-number-eq0 : goal.returns-else-number-eq0
-returns-else-number-eq0 c =
-    let x = c.args in
-    misplaced-own _ _ x.schedule.now x.span _ _ _ (c.if-not-misplaced.false) c.of_table-number.ensures
-    c.if-number-eq0.false refl
+pub returns : goal.returns
+returns c = file-judged _ _ _ _ _ _ _ c.in_ok-read.ensures c.tasks.ensures c.handlers.ensures c.of_schedule.ensures

@@ -12,8 +12,9 @@ pub returns : goal.returns
 returns c =
     let start = c.args in
     let head = c.of-head.ensures in
-    let named = c.with_word-named in
+    let named = c.puts-named in
+    let word = named.ensures ∙ ap (λ (w : List ℕ). puts_of c.of-head.result w) c.word.ensures in
     let numbers = c.numbers-numbers.ensures in
     let listed =
     c.fields.ensures ∙ ap (λ (ns : List ℕ). puts_of named.result (fields_of (take 2 (drop 1 ns)))) numbers in
-    lines-printed (figures start.answer) _ (chained _ _ head named.ensures listed c.puts.ensures)
+    lines-printed (figures start.answer) _ (chained _ _ head word listed c.puts.ensures)
