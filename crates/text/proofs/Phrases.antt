@@ -11,8 +11,7 @@ use lib.ListN.{length, get_or, get_or-eq_default}
 use Rattle.demand.proofs.Divide.{le-or-lt}
 use Rattle.text.specs.Ascii.{ascii}
 use Rattle.text.specs.English.{phrases, english}
-use Rattle.text.specs.Text.{text_most, text_of, blank_text, puts_of}
-use Rattle.text.specs.declared.Text.{Text}
+use Rattle.text.specs.Text.{text_most, puts_of}
 use Rattle.text.proofs.Tests.{both_true}
 use Rattle.text.proofs.Writes.{puts-blank}
 
@@ -33,22 +32,22 @@ english-most n = get_d-within phrases (ascii "unknown") n refl (omega arith)
 
 -- ---- the line of a number that is k, and of one past the table
 
-pub said : (n k : ℕ) {r : Text} → n ≡ k → r ≡ puts_of blank_text (english k) → r ≡ text_of (english n)
-said n k e w = w ∙ puts-blank (english k) (english-most k) ∙ ap (λ (x : ℕ). text_of (english x)) (sym e)
+pub said : (n k : ℕ) {r : List ℕ} → n ≡ k → r ≡ puts_of [] (english k) → r ≡ english n
+said n k e w = w ∙ puts-blank (english k) (english-most k) ∙ ap english (sym e)
 
 english-past : (n : ℕ) → length phrases ≤ n → english n ≡ ascii "unknown"
 unfolding english
 english-past n h = get_or-eq_default phrases (ascii "unknown") h
 
-said-past : (n : ℕ) {r : Text} → length phrases ≤ n → r ≡ puts_of blank_text (ascii "unknown") → r ≡ text_of (english n)
-said-past n h w = w ∙ puts-blank (ascii "unknown") (omega arith) ∙ ap text_of (sym (english-past n h))
+said-past : (n : ℕ) {r : List ℕ} → length phrases ≤ n → r ≡ puts_of [] (ascii "unknown") → r ≡ english n
+said-past n h w = w ∙ puts-blank (ascii "unknown") (omega arith) ∙ sym (english-past n h)
 
 -- Behind 14 only 18 has a line.
-pub said-other : (n : ℕ) {r : Text} → 15 ≤ n → (n ≡ 18 → ⊥) → r ≡ puts_of blank_text (ascii "unknown") → r ≡ text_of (english n)
+pub said-other : (n : ℕ) {r : List ℕ} → 15 ≤ n → (n ≡ 18 → ⊥) → r ≡ puts_of [] (ascii "unknown") → r ≡ english n
 unfolding english
 said-other n {r} from other w = go (le-or-lt 19 n) (le-or-lt 17 n) (le-or-lt 16 n)
   where
-    go : (19 ≤ n) ⊎ (n < 19) → (17 ≤ n) ⊎ (n < 17) → (16 ≤ n) ⊎ (n < 16) → r ≡ text_of (english n)
+    go : (19 ≤ n) ⊎ (n < 19) → (17 ≤ n) ⊎ (n < 17) → (16 ≤ n) ⊎ (n < 16) → r ≡ english n
     go (inl past) b c = said-past n past w
     go (inr a) (inl b) c = said n 17 (omega arith) w
     go (inr a) (inr b) (inl c) = said n 16 (omega arith) w

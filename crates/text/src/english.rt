@@ -1,14 +1,13 @@
 // The English line of a refusal number: the table's own words.
 ghost use Rattle.std.specs.Prelude.{◌≡◌, ◌≤◌};
 ghost use Rattle.text.specs.English.{english};
-ghost use Rattle.text.specs.Text.{text_of};
 
 use crate::{Text, of};
 
 // Refusals of a table, and of a question about it.
 fn of_table(number: u32) -> Text
     requires { (1 ≤ number) × (number ≤ 5) }
-    ensures { result ≡ text_of (english number) }
+    ensures { result ≡ english number }
 {
     match number {
         1 => of(b"a task list is not in threes, or a handler list has an odd count of numbers"),
@@ -22,7 +21,7 @@ fn of_table(number: u32) -> Text
 // Refusals of a run, and of a step of it.
 fn of_run(number: u32) -> Text
     requires { (6 ≤ number) × (number ≤ 11) }
-    ensures { result ≡ text_of (english number) }
+    ensures { result ≡ english number }
 {
     match number {
         6 => of(b"the run is out of bounds"),
@@ -36,7 +35,7 @@ fn of_run(number: u32) -> Text
 
 // The line of any number.
 pub fn line(number: u32) -> Text
-    ensures { result ≡ text_of (english number) }
+    ensures { result ≡ english number }
 {
     match number {
         1..=5 => of_table(number),

@@ -5,31 +5,54 @@ pub mod digits;
 pub mod english;
 pub mod spelled;
 
-ghost use Rattle.std.specs.Prelude.{◌≡◌, ◌+◌, ◌<◌, get_or, take};
+ghost use Rattle.std.specs.Prelude.{[], ◌∷◌, ◌++◌, ◌≡◌, ◌+◌, ◌<◌, get_or, length};
 ghost use Rattle.text.specs.Numbers.{decimal, fields_of};
-ghost use Rattle.text.specs.Text.{blank_text, put_of, puts_of};
+ghost use Rattle.text.specs.Text.{text_most, put_of, puts_of};
+
+use std::marker::Model;
 
 // The most bytes of a text. A sheet has 155 with its five figures of 20 digits each; with two more and their names, 209.
 pub const TEXT_MOST: usize = 224;
 
-// A text, and zeros behind.
-#[derive(Clone, Copy)]
+// A text: bytes one behind the other.
+#[derive(Drop)]
 pub struct Text {
-    pub bytes: [u8; TEXT_MOST],
-    pub len: usize,
+    bytes: [u8; TEXT_MOST],
+    len: usize,
+}
+
+// Clauses see its bytes.
+impl Model for Text {
+    ghost use Rattle.std.specs.Prelude.{List, ℕ, ◌≤◌, take};
+    ghost use Rattle.text.specs.Text.{text_most};
+
+    ghost Value = { List ℕ };
+
+    ghost view = { λ text. take text.len text.bytes };
+
+    ghost invariant = { λ text. text.len ≤ text_most };
 }
 
 impl Text {
     // Its bytes.
     pub fn as_bytes(&self) -> &[u8]
-        ensures { result.now ≡ take self.now.len self.now.bytes }
+        ensures { result.now ≡ self.now }
     {
-        &self.bytes[..self.len.min(TEXT_MOST)]
+        &self.bytes[..self.len]
+    }
+
+    // One byte more.
+    fn push(&mut self, b: u8)
+        requires { length self.old < text_most }
+        ensures { self.new ≡ self.old ++ b ∷ [] }
+    {
+        self.bytes[self.len] = b;
+        self.len += 1;
     }
 }
 
 pub fn blank() -> Text
-    ensures { result ≡ blank_text }
+    ensures { result ≡ [] }
 {
     Text {
         bytes: [0; TEXT_MOST],
@@ -41,14 +64,10 @@ pub fn blank() -> Text
 pub fn put(mut text: Text, b: u8) -> Text
     ensures { result ≡ put_of text b }
 {
-    let n = text.len;
-    if n < TEXT_MOST {
-        text.bytes[n] = b;
-        text.len = n + 1;
-        text
-    } else {
-        text
+    if text.as_bytes().len() < TEXT_MOST {
+        text.push(b);
     }
+    text
 }
 
 // The bytes of s more.
@@ -64,7 +83,7 @@ pub fn puts(text: Text, s: &[u8]) -> Text
 
 // The text of the bytes s.
 pub fn of(s: &[u8]) -> Text
-    ensures { result ≡ puts_of blank_text s.now }
+    ensures { result ≡ puts_of [] s.now }
 {
     puts(blank(), s)
 }

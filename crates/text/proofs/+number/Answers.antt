@@ -1,6 +1,7 @@
 use mathlib.Core.Path.{ap, ◌∙◌}
 use Rattle.text.specs.Text.{put_of}
-use Rattle.text.specs.declared.Text.{Text}
+use mathlib.Core.List.{List}
+use Prim.Native.Nat.{ℕ}
 use Rattle.text.proofs.Writes.{puts-digit, puts-digits}
 use Prim.Native.Nat.{◌+◌, ◌%◌}
 use Rattle.text.proofs.+number.Goals as goal
@@ -10,5 +11,5 @@ returns-then-n-lt10 t c = c.put.ensures ∙ ap (put_of _) c.digit.ensures ∙ pu
 
 pub returns : goal.returns
 returns t c =
-    c.put-2.ensures ∙ ap (put_of _) c.digit-2.ensures ∙ ap (λ (t : Text). put_of t (48 + c.args.n % 10)) c.number-front.ensures
+    c.put-2.ensures ∙ ap (put_of _) c.digit-2.ensures ∙ ap (λ (t : List ℕ). put_of t (48 + c.args.n % 10)) c.number-front.ensures
     ∙ puts-digits c.args.text c.args.n c.if-n-lt10.false c.ranges.n.fits
