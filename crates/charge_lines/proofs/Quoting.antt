@@ -16,9 +16,6 @@ use Rattle.charge_lines.proofs.Written.{tail-most}
 use Rattle.charges.specs.declared.figures.Figures.{Figures}
 use Rattle.demand.specs.Tests.{pick}
 use Rattle.page.specs.Laid.{end_of, laid}
-use Rattle.text.specs.Text.{text_of}
-use Rattle.text.specs.declared.Text.{Text}
-use Rattle.text.proofs.Writes.{text-bytes}
 use Rattle.page.proofs.Laid.{end-room, laid-append, laid-length, laid-nothing}
 
 -- ---- a test of each byte
@@ -194,13 +191,12 @@ module _ (page bs : List ℕ) (short : length bs ≤ name_most) (wide : length p
 pub name-count : (n : ℕ) (name : List ℕ) → n ≡ min (length name) name_most → (n ≡ length (take n name)) × (length (take n name) ≤ name_most)
 name-count n name e = (omega (arith, e, length-take n name), omega (arith, e, length-take n name))
 
-pub line-laid : (name : List ℕ) (g : Figures) (n at r : ℕ) (p q : List ℕ) (t : Text) (tail : List ℕ) → n ≡ min (length name) name_most
-    → (at ≡ length (name_field (take n name))) × (p ≡ laid (replicate line_most 0) 0 (name_field (take n name))) → t ≡ text_of (tail_of g)
-    → tail ≡ take t.len t.bytes → (r ≡ end_of (length p) at (length tail)) × (q ≡ laid p at tail)
+pub line-laid : (name : List ℕ) (g : Figures) (n at r : ℕ) (p q tail : List ℕ) → n ≡ min (length name) name_most
+    → (at ≡ length (name_field (take n name))) × (p ≡ laid (replicate line_most 0) 0 (name_field (take n name))) → tail ≡ tail_of g
+    → (r ≡ end_of (length p) at (length tail)) × (q ≡ laid p at tail)
     → ◌≡◌ {A = Line} (record { bytes = q; len = r }) (printed name g)
 unfolding printed line_of
-line-laid name g n at r p q t tail en (eat, ep) et es (er, eq) =
-    let said : tail ≡ tail_of g = es ∙ text-bytes t (tail_of g) et in
+line-laid name g n at r p q tail en (eat, ep) said (er, eq) =
     let zeros : List ℕ = replicate line_most 0 in
     let f = name_field (take n name) in
     let most : length f ≤ 8192 = field-most (take n name) (name-count n name en).1 in

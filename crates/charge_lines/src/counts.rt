@@ -1,7 +1,6 @@
 // How many lines fit, miss or say nothing, for each way of charging.
 ghost use Rattle.std.specs.Prelude.{◌≡◌};
 ghost use Rattle.charge_lines.specs.Counts.{counted, way_name, count_line};
-ghost use Rattle.text.specs.Text.{text_of};
 
 use charges::figures::Word;
 use text::Text;
@@ -64,7 +63,7 @@ fn name(way: Way) -> &'static [u8]
 
 // The line of a way's counts.
 pub fn line(way: Way, counts: Counts) -> Text
-    ensures { result ≡ text_of (count_line way counts) }
+    ensures { result ≡ count_line way counts }
 {
     let numbers = [counts.fits, counts.misses, counts.none];
     text::puts(text::fields(text::of(name(way)), &numbers), b"\r\n")

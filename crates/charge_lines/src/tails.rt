@@ -1,7 +1,7 @@
 // What a line says of a table, behind its name.
 ghost use Rattle.std.specs.Prelude.{◌≡◌};
 ghost use Rattle.charge_lines.specs.Line.{word_field, part_field, tail_of};
-ghost use Rattle.text.specs.Text.{text_of, puts_of};
+ghost use Rattle.text.specs.Text.{puts_of};
 
 use charges::figures::{Figures, Word};
 use text::Text;
@@ -27,7 +27,7 @@ fn part(text: Text, said: Word, load: u64) -> Text
 
 // All of it.
 pub fn of_figures(figures: Figures) -> Text
-    ensures { result ≡ text_of (tail_of figures) }
+    ensures { result ≡ tail_of figures }
 {
     let exact = text::of(field(figures.exact));
     let a = text::fields(exact, &[figures.code, figures.load]);

@@ -13,20 +13,15 @@ use Rattle.guard_file.proofs.Printed.{guard-lines-most, lines-most, lines_next}
 use Rattle.page.specs.Laid as over
 use Rattle.page.specs.Laid.{end_of}
 use Rattle.page.proofs.Laid.{end-room, lay-behind, laid-nothing, laid-length, laid-sets}
-use Rattle.text.specs.Text.{text_of}
-use Rattle.text.specs.declared.Text.{Text}
-use Rattle.text.proofs.Writes.{text-bytes}
 
 -- The first bytes of the page are those that were laid there.
 pub laid-front : (page bs : List ℕ) → length page ≡ page_most → length bs ≤ page_most → take (length bs) (laid page 0 bs) ≡ bs
 laid-front page bs long few = ap (take (length bs)) (sets-eq bs page 0 (omega arith)) ∙ take-append_seam bs _
 
 -- A text alone, from the start of the page on.
-pub only-laid : (start page : List ℕ) (r : ℕ) (bs : List ℕ) (text : Text) (bytes : List ℕ) → length start ≡ page_most → length bs ≤ page_most
-    → text ≡ text_of bs → bytes ≡ take text.len text.bytes
+pub only-laid : (start page : List ℕ) (r : ℕ) (bs bytes : List ℕ) → length start ≡ page_most → length bs ≤ page_most → bytes ≡ bs
     → (r ≡ end_of (length start) 0 (length bytes)) × (page ≡ over.laid start 0 bytes) → (page ≡ laid start 0 bs) × (r ≡ length bs)
-only-laid start page r bs text bytes long few line lent (er, ep) =
-    let said : bytes ≡ bs = lent ∙ text-bytes text bs line in (
+only-laid start page r bs bytes long few said (er, ep) = (
       ep ∙ ap (over.laid start 0) said ∙ laid-sets start bs 0 (omega (arith, long)),
       er ∙ ap (λ (xs : List ℕ). end_of (length start) 0 (length xs)) said ∙ end-room start bs 0 (omega (arith, long)) ∙ zero-add (length bs),
     )
@@ -42,15 +37,13 @@ module _ (start : List ℕ) (at : ℕ) (ns : List ℕ) where
   lines-start room = (omega arith, sym (laid-nothing start at room))
 
   pub lines-more : at + guards_held * guard_most ≤ length start → (k end : ℕ) (page : List ℕ) → k < guards_held → Behind k end page
-      → (text : Text) (bytes : List ℕ) → text ≡ text_of (guard_lines_by (get_or ns (3 * k) 0) (get_or ns (3 * k + 1) 0) (get_or ns (3 * k + 2) 0))
-      → bytes ≡ take text.len text.bytes
+      → (bytes : List ℕ) → bytes ≡ guard_lines_by (get_or ns (3 * k) 0) (get_or ns (3 * k + 1) 0) (get_or ns (3 * k + 2) 0)
       → (r : ℕ) (p : List ℕ) → (r ≡ end_of (length page) end (length bytes)) × (p ≡ over.laid page end bytes) → Behind (k + 1) r p
-  lines-more room k end page h here text bytes line lent r p laid_so =
+  lines-more room k end page h here bytes said r p laid_so =
       let i = get_or ns (3 * k) 0 in
       let t = get_or ns (3 * k + 1) 0 in
       let q = get_or ns (3 * k + 2) 0 in
       let more = guard_lines_by i t q in
-      let said : bytes ≡ more = lent ∙ text-bytes text more line in
       let behind =
       lay-behind start at (lines_up_to ns k) more page end (omega (arith, lines-most ns k, guard-lines-most i t q)) here.0 here.1 r p (
         laid_so.0 ∙ ap (λ (bs : List ℕ). end_of (length page) end (length bs)) said,

@@ -9,8 +9,7 @@ use Rattle.guard_file.specs.Inside.Pages.{guard_lines_by, guard_most, lines_up_t
 use Rattle.guard_file.specs.Page.{row_line, refused_text}
 use Rattle.text.specs.Ascii.{ascii, crlf}
 use Rattle.text.specs.Numbers.{comma, fields_of}
-use Rattle.text.specs.Text.{text_of, blank_text, puts_of}
-use Rattle.text.specs.declared.Text.{Text}
+use Rattle.text.specs.Text.{puts_of}
 use Rattle.text.proofs.Numbers.{fields-most}
 use Rattle.text.proofs.Writes.{puts-append, puts-blank}
 
@@ -53,7 +52,7 @@ lines_next ns k = rw (add-one k)
 -- ---- the chains of calls that write them
 
 -- Five parts in one.
-five : (t : Text) (a b c d e : List ℕ) → puts_of (puts_of (puts_of (puts_of (puts_of t a) b) c) d) e ≡ puts_of t (a ++ (b ++ (c ++ (d ++ e))))
+five : (t : List ℕ) (a b c d e : List ℕ) → puts_of (puts_of (puts_of (puts_of (puts_of t a) b) c) d) e ≡ puts_of t (a ++ (b ++ (c ++ (d ++ e))))
 five t a b c d e = simp (← puts-append, append_assoc)
 
 -- what stands between the two rows of a guard
@@ -67,20 +66,20 @@ module _ (i t p : ℕ) where
   abbrev second : List ℕ
   second = fields_of (t ∷ p ∷ [])
 
-  guard-gathered : puts_of (puts_of (puts_of (puts_of (puts_of blank_text (ascii "handler")) first) between) second) (comma ∷ crlf)
-      ≡ puts_of blank_text (guard_lines_by i t p)
+  guard-gathered : puts_of (puts_of (puts_of (puts_of (puts_of [] (ascii "handler")) first) between) second) (comma ∷ crlf)
+      ≡ puts_of [] (guard_lines_by i t p)
   unfolding guard_lines_by
   guard-gathered =
-      five blank_text (ascii "handler") first between second (comma ∷ crlf) ∙ ap (puts_of blank_text) (joined first second)
+      five [] (ascii "handler") first between second (comma ∷ crlf) ∙ ap (puts_of []) (joined first second)
     where
       joined : (x y : List ℕ) → ascii "handler" ++ (x ++ (between ++ (y ++ (comma ∷ crlf))))
           ≡ (ascii "handler" ++ x ++ (comma ∷ crlf)) ++ (ascii "handler" ++ y ++ (comma ∷ crlf))
       joined x y = ap (λ (z : List ℕ). ascii "handler" ++ z) (sym (append_assoc x (comma ∷ crlf) (ascii "handler" ++ y ++ (comma ∷ crlf))))
 
-  pub guard-written : {a b c d r : Text} → a ≡ puts_of blank_text (ascii "handler") → b ≡ puts_of a first → c ≡ puts_of b between
-      → d ≡ puts_of c second → r ≡ puts_of d (comma ∷ crlf) → r ≡ text_of (guard_lines_by i t p)
+  pub guard-written : {a b c d r : List ℕ} → a ≡ puts_of [] (ascii "handler") → b ≡ puts_of a first → c ≡ puts_of b between
+      → d ≡ puts_of c second → r ≡ puts_of d (comma ∷ crlf) → r ≡ guard_lines_by i t p
   guard-written {r = r} e1 e2 e3 e4 e =
-      let all : r ≡ puts_of blank_text (guard_lines_by i t p) = cc guard-gathered in
+      let all : r ≡ puts_of [] (guard_lines_by i t p) = cc guard-gathered in
       all ∙ puts-blank (guard_lines_by i t p) (omega (arith, guard-lines-most i t p))
 
 -- the start of a refusal
@@ -88,12 +87,12 @@ abbrev refusing : List ℕ
 refusing = ascii "guards,code,guard" ++ crlf ++ ascii "refused"
 
 module _ (k i : ℕ) where
-  refused-gathered : puts_of (puts_of (puts_of blank_text refusing) (fields_of (k ∷ i ∷ []))) crlf ≡ puts_of blank_text (refused_text k i)
+  refused-gathered : puts_of (puts_of (puts_of [] refusing) (fields_of (k ∷ i ∷ []))) crlf ≡ puts_of [] (refused_text k i)
   unfolding refused_text
   refused-gathered = simp (← puts-append, append_assoc)
 
-  pub refused-written : {a b r : Text} → a ≡ puts_of blank_text refusing → b ≡ puts_of a (fields_of (k ∷ i ∷ [])) → r ≡ puts_of b crlf
-      → r ≡ text_of (refused_text k i)
+  pub refused-written : {a b r : List ℕ} → a ≡ puts_of [] refusing → b ≡ puts_of a (fields_of (k ∷ i ∷ [])) → r ≡ puts_of b crlf
+      → r ≡ refused_text k i
   refused-written {r = r} e1 e2 e =
-      let all : r ≡ puts_of blank_text (refused_text k i) = cc refused-gathered in
+      let all : r ≡ puts_of [] (refused_text k i) = cc refused-gathered in
       all ∙ puts-blank (refused_text k i) (omega (arith, refused-most k i))

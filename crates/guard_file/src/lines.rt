@@ -5,7 +5,6 @@ ghost use Rattle.guard_file.specs.Inside.Building.{guards_held};
 ghost use Rattle.guard_file.specs.Inside.Pages.{guard_lines_by, guard_most, lines_up_to, Written};
 ghost use Rattle.guard_file.specs.Page.{laid, rows_heading, refused_text};
 ghost use Rattle.page.specs.Laid as over;
-ghost use Rattle.text.specs.Text.{text_of};
 
 use crate::reader::{GUARDS_MOST, NUMBERS, Sheet};
 use crate::{Output, PAGE_MOST};
@@ -14,7 +13,7 @@ use text::Text;
 
 // The two handler rows of a guard.
 fn guard_lines(interrupt: u64, timer: u64, period: u64) -> Text
-    ensures { result ≡ text_of (guard_lines_by interrupt timer period) }
+    ensures { result ≡ guard_lines_by interrupt timer period }
 {
     let first = [interrupt, period];
     let second = [timer, period];
@@ -24,7 +23,7 @@ fn guard_lines(interrupt: u64, timer: u64, period: u64) -> Text
 
 // The lines of a refusal, of the guard at this place.
 fn refused(refusal: Refusal, place: usize) -> Text
-    ensures { result ≡ text_of (refused_text (number_of refusal) place) }
+    ensures { result ≡ refused_text (number_of refusal) place }
 {
     let numbers = [u64::from(refusal.number()), place as u64];
     text::puts(

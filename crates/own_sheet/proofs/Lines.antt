@@ -8,8 +8,7 @@ use Rattle.demand.specs.declared.table.Kind.TheVariants.{Task, Handler}
 use Rattle.own_sheet.specs.Lines.{letter_by, segment_line, LineOfFile}
 use Rattle.text.specs.Ascii.{crlf}
 use Rattle.text.specs.Numbers.{decimal, field, fields_of}
-use Rattle.text.specs.Text.{text_of, blank_text, put_of, puts_of}
-use Rattle.text.specs.declared.Text.{Text}
+use Rattle.text.specs.Text.{put_of, puts_of}
 use Rattle.text.proofs.Numbers.{decimal-most, fields-most}
 use Rattle.text.proofs.Writes.{put_one, puts-append, puts-blank}
 
@@ -35,14 +34,14 @@ module _ (k row from to : ℕ) where
         fields-most (from ∷ to ∷ []),
       )
 
-  four : (t : Text) → puts_of (puts_of (puts_of (puts_of t (letter_by k ∷ [])) (decimal row)) ticks) crlf ≡ puts_of t ((letter_by k ∷ []) ++ (decimal row ++ (ticks ++ crlf)))
+  four : (t : List ℕ) → puts_of (puts_of (puts_of (puts_of t (letter_by k ∷ [])) (decimal row)) ticks) crlf ≡ puts_of t ((letter_by k ∷ []) ++ (decimal row ++ (ticks ++ crlf)))
   four t = simp (← puts-append, append_assoc)
 
-  pub line-written : {a b c r : Text} → a ≡ put_of blank_text (letter_by k) → b ≡ puts_of a (decimal row) → c ≡ puts_of b ticks → r ≡ puts_of c crlf
-      → r ≡ text_of (segment_line k row from to)
+  pub line-written : {a b c r : List ℕ} → a ≡ put_of [] (letter_by k) → b ≡ puts_of a (decimal row) → c ≡ puts_of b ticks → r ≡ puts_of c crlf
+      → r ≡ segment_line k row from to
   line-written {r = r} ea eb ec e =
-      let first : put_of blank_text (letter_by k) ≡ puts_of blank_text (letter_by k ∷ []) = put_one blank_text (letter_by k) in
-      let all : r ≡ puts_of blank_text (segment_line k row from to) = cc (four blank_text, ap (puts_of blank_text) parts) in
+      let first : put_of [] (letter_by k) ≡ puts_of [] (letter_by k ∷ []) = put_one [] (letter_by k) in
+      let all : r ≡ puts_of [] (segment_line k row from to) = cc (four [], ap (puts_of []) parts) in
       all ∙ puts-blank (segment_line k row from to) (omega (arith, few))
 
 pub line-of-file : LineOfFile
@@ -51,5 +50,5 @@ line-of-file Task row from to = refl
 line-of-file Handler row from to = refl
 
 -- The letter behind nothing.
-pub first-written : (b l : ℕ) (t r : Text) → l ≡ letter_by b → t ≡ blank_text → r ≡ put_of t l → r ≡ put_of blank_text (letter_by b)
-first-written b l t r el et er = er ∙ ap (λ (x : ℕ). put_of t x) el ∙ ap (λ (x : Text). put_of x (letter_by b)) et
+pub first-written : (b l : ℕ) (t r : List ℕ) → l ≡ letter_by b → t ≡ [] → r ≡ put_of t l → r ≡ put_of [] (letter_by b)
+first-written b l t r el et er = er ∙ ap (λ (x : ℕ). put_of t x) el ∙ ap (λ (x : List ℕ). put_of x (letter_by b)) et

@@ -4,7 +4,6 @@
 ghost use Rattle.std.specs.Prelude.{◌≡◌};
 ghost use Rattle.own_sheet.specs.Lines.{letter_by, segment_line};
 ghost use Rattle.schedule_file.specs.Schedule.{kind_number};
-ghost use Rattle.text.specs.Text.{text_of};
 
 use demand::table::Kind;
 use text::Text;
@@ -21,7 +20,7 @@ fn letter(kind: Kind) -> u8
 
 // The line of a segment, with its CRLF.
 pub fn line(kind: Kind, row: u64, from: u64, to: u64) -> Text
-    ensures { result ≡ text_of (segment_line (kind_number kind) row from to) }
+    ensures { result ≡ segment_line (kind_number kind) row from to }
 {
     let first = text::put(text::blank(), letter(kind));
     text::puts(

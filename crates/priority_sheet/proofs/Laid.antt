@@ -19,9 +19,6 @@ use Rattle.priority_sheet.specs.Printed.{heading, task_line, task_lines, refused
 use Rattle.priority_sheet.specs.Whole.{laid, page_most}
 use Rattle.priority_sheet.proofs.Printed.{task-line-most, task-lines-most, task-lines-next, refused-line-most}
 use Rattle.text.specs.Ascii.{crlf}
-use Rattle.text.specs.Text.{text_of}
-use Rattle.text.specs.declared.Text.{Text}
-use Rattle.text.proofs.Writes.{text-bytes}
 
 -- The first bytes of the page are those that were laid there.
 pub laid-front : (page bs : List ℕ) → length page ≡ page_most → length bs ≤ page_most → take (length bs) (laid page 0 bs) ≡ bs
@@ -38,11 +35,10 @@ module _ (start : List ℕ) (at : ℕ) (ls : List ℕ) where
   lines-start room = (omega arith, sym (laid-nothing start at room))
 
   pub line-more : at + tasks_most * line_most ≤ length start → (k end : ℕ) (page : List ℕ) → k < tasks_most → Behind k end page
-      → (text : Text) (bytes : List ℕ) → text ≡ text_of (task_line k (get_or ls k 0)) → bytes ≡ take text.len text.bytes
+      → (bytes : List ℕ) → bytes ≡ task_line k (get_or ls k 0)
       → (r : ℕ) (p : List ℕ) → (r ≡ end_of (length page) end (length bytes)) × (p ≡ over.laid page end bytes) → Behind (k + 1) r p
-  line-more room k end page h here text bytes line lent r p laid_so =
+  line-more room k end page h here bytes said r p laid_so =
       let more = task_line k (get_or ls k 0) in
-      let said : bytes ≡ more = lent ∙ text-bytes text more line in
       let behind =
       lay-behind start at (task_lines ls k) more page end (omega (arith, task-lines-most ls k, task-line-most k (get_or ls k 0))) here.0 here.1 r p (
         laid_so.0 ∙ ap (λ (bs : List ℕ). end_of (length page) end (length bs)) said,
@@ -84,14 +80,13 @@ module _ (start page : List ℕ) (at : ℕ) (long : length start ≡ page_most)
       rw is (wrote.0, wrote.1, refl)
 
   -- or that of a refusal.
-  pub refused-laid : (s : Result Responses Refusal) (e : Refusal) → s ≡ Err e → (text : Text) (bytes : List ℕ) → text ≡ text_of (refused_line (number_of e))
-      → bytes ≡ take text.len text.bytes → (end : ℕ) (page' : List ℕ)
+  pub refused-laid : (s : Result Responses Refusal) (e : Refusal) → s ≡ Err e → (bytes : List ℕ) → bytes ≡ refused_line (number_of e)
+      → (end : ℕ) (page' : List ℕ)
       → (end ≡ end_of (length page) at (length bytes)) × (page' ≡ over.laid page at bytes)
       → (page' ≡ laid start 0 (printed s)) × (end ≡ length (printed s)) × (Some e ≡ result_err s)
   unfolding printed body_of
-  refused-laid s e is text bytes line lent end page' laid_so =
+  refused-laid s e is bytes said end page' laid_so =
       let body = refused_line (number_of e) in
-      let said : bytes ≡ body = lent ∙ text-bytes text body line in
       let few : length body ≤ line_most = refused-line-most (number_of e) in
       let ends : end ≡ at + length body =
       laid_so.0 ∙ ap (λ (bs : List ℕ). end_of (length page) at (length bs)) said

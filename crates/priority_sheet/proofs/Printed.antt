@@ -11,8 +11,7 @@ use Rattle.demand.specs.Tests.{pick}
 use Rattle.priority_sheet.specs.Printed.{word_of, line_of, task_line, task_lines, refused_line, line_most}
 use Rattle.text.specs.Ascii.{ascii, crlf}
 use Rattle.text.specs.Numbers.{fields_of}
-use Rattle.text.specs.Text.{text_most, text_of, blank_text, puts_of}
-use Rattle.text.specs.declared.Text.{Text}
+use Rattle.text.specs.Text.{text_most, puts_of}
 use Rattle.text.proofs.Numbers.{fields-most}
 use Rattle.text.proofs.Writes.{puts-append, puts-blank}
 
@@ -45,21 +44,21 @@ task-lines-next ls n = rw (add-one n)
 
 -- The chain of calls that writes a line: the word, the numbers, the line end.
 module _ (word ns : List ℕ) where
-  gathered : puts_of (puts_of (puts_of blank_text word) (fields_of ns)) crlf ≡ puts_of blank_text (line_of word ns)
+  gathered : puts_of (puts_of (puts_of [] word) (fields_of ns)) crlf ≡ puts_of [] (line_of word ns)
   gathered = simp (← puts-append, append_assoc)
 
-  chained : {named listed r : Text} → named ≡ puts_of blank_text word → listed ≡ puts_of named (fields_of ns) → r ≡ puts_of listed crlf
-      → length (line_of word ns) ≤ text_most → r ≡ text_of (line_of word ns)
+  chained : {named listed r : List ℕ} → named ≡ puts_of [] word → listed ≡ puts_of named (fields_of ns) → r ≡ puts_of listed crlf
+      → length (line_of word ns) ≤ text_most → r ≡ line_of word ns
   chained {r = r} e1 e2 e fits =
-      let all : r ≡ puts_of blank_text (line_of word ns) = cc gathered in
+      let all : r ≡ puts_of [] (line_of word ns) = cc gathered in
       all ∙ puts-blank (line_of word ns) fits
 
-pub task-line-written : (i l : ℕ) {named listed r : Text} → named ≡ puts_of blank_text (word_of l) → listed ≡ puts_of named (fields_of (0 ∷ i ∷ l ∷ []))
-    → r ≡ puts_of listed crlf → r ≡ text_of (task_line i l)
+pub task-line-written : (i l : ℕ) {named listed r : List ℕ} → named ≡ puts_of [] (word_of l) → listed ≡ puts_of named (fields_of (0 ∷ i ∷ l ∷ []))
+    → r ≡ puts_of listed crlf → r ≡ task_line i l
 unfolding task_line
 task-line-written i l e1 e2 e = chained (word_of l) (0 ∷ i ∷ l ∷ []) e1 e2 e (omega (arith, line-most (word_of l) (0 ∷ i ∷ l ∷ []) (word-most l) (omega arith)))
 
-pub refused-line-written : (k : ℕ) {named listed r : Text} → named ≡ puts_of blank_text (ascii "refused") → listed ≡ puts_of named (fields_of (k ∷ 0 ∷ 0 ∷ []))
-    → r ≡ puts_of listed crlf → r ≡ text_of (refused_line k)
+pub refused-line-written : (k : ℕ) {named listed r : List ℕ} → named ≡ puts_of [] (ascii "refused") → listed ≡ puts_of named (fields_of (k ∷ 0 ∷ 0 ∷ []))
+    → r ≡ puts_of listed crlf → r ≡ refused_line k
 unfolding refused_line
 refused-line-written k e1 e2 e = chained (ascii "refused") (k ∷ 0 ∷ 0 ∷ []) e1 e2 e (omega (arith, line-most (ascii "refused") (k ∷ 0 ∷ 0 ∷ []) (omega arith) (omega arith)))

@@ -6,7 +6,6 @@ ghost use Rattle.demand.specs.Numbered.{number_of};
 ghost use Rattle.page.specs.Laid as over;
 ghost use Rattle.priority_sheet.specs.Printed.{word_of, task_line, task_lines, refused_line, line_most, printed};
 ghost use Rattle.priority_sheet.specs.Whole.{laid, Few};
-ghost use Rattle.text.specs.Text.{text_of};
 
 use crate::{Output, PAGE_MOST, Responses};
 use demand::refusal::Refusal;
@@ -14,7 +13,7 @@ use text::Text;
 
 // The line of task i, whose response is l.
 fn task_line(i: u64, l: u64) -> Text
-    ensures { result ≡ text_of (task_line i l) }
+    ensures { result ≡ task_line i l }
 {
     text::puts(text::fields(text::of(word(l)), &[0, i, l]), b"\r\n")
 }
@@ -27,7 +26,7 @@ fn word(l: u64) -> &'static [u8]
 }
 
 fn refused_line(refusal: Refusal) -> Text
-    ensures { result ≡ text_of (refused_line (number_of refusal)) }
+    ensures { result ≡ refused_line (number_of refusal) }
 {
     let numbers = [u64::from(refusal.number()), 0, 0];
     text::puts(text::fields(text::of(b"refused"), &numbers), b"\r\n")

@@ -31,8 +31,6 @@ use Rattle.segments.specs.Promise.Word.{accepted, broken, refused}
 use Rattle.segments.proofs.Answers as judged
 use Rattle.segments.proofs.Refusals.{torn-refusal}
 use Rattle.text.specs.Reasons.{reason}
-use Rattle.text.specs.Text.{text_of}
-use Rattle.text.specs.declared.Text.{Text}
 use Rattle.text.proofs.Reasons.{reason-none, reason-some}
 
 -- ---- the schedule file
@@ -99,8 +97,8 @@ reason-of (Ok (Some tick)) = reason-none
 reason-of (Err e) = reason-some e
 
 -- What is written of it.
-pub judged-says : (tb bs : List ℕ) (L : ℕ) (r : Result (Option ℕ) Refusal) (text : Text) (refusal : Option Refusal) → FileFigures tb bs L (figures r)
-    → text ≡ text_of (printed (figures r)) → refusal ≡ result_err r → JudgedSays tb bs L (record { text = text; refusal = refusal })
+pub judged-says : (tb bs : List ℕ) (L : ℕ) (r : Result (Option ℕ) Refusal) (text : List ℕ) (refusal : Option Refusal) → FileFigures tb bs L (figures r)
+    → text ≡ printed (figures r) → refusal ≡ result_err r → JudgedSays tb bs L (record { text = text; refusal = refusal })
 judged-says tb bs L r text refusal told lines e =
     record { told = figures r; figures = told; written = λ i. record { text = lines i; refusal = (e ∙ reason-of r) i } }
 

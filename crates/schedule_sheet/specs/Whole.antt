@@ -18,7 +18,6 @@ use Rattle.schedule_sheet.specs.Printed.{printed}
 use Rattle.schedule_sheet.specs.declared.Output.{Output}
 use Rattle.segments.specs.Promise.{Figures, refusal_of, Says}
 use Rattle.text.specs.Reasons.{reason}
-use Rattle.text.specs.Text.{text_of}
 use Rattle.verdict.specs.Promise.{verdict_refusal}
 
 abbrev pub broken_refusal : List ℕ → List ℕ → ℕ
@@ -38,7 +37,7 @@ FileFigures tb bs L g =
     ⊎ (table.SaysNothing tb × (g ≡ refusal_of 12))
 
 abbrev pub output_of : Figures → Output
-output_of g = record { text = text_of (printed g); refusal = reason g.code }
+output_of g = record { text = printed g; refusal = reason g.code }
 
 pub record JudgedSays (tb bs : List ℕ) (L : ℕ) (out : Output) : Type 0 where
   pub told : Figures

@@ -11,7 +11,7 @@ use demand::refusal::Refusal;
 use text::Text;
 
 // What is written: the two lines, and the refusal that they tell of.
-#[derive(Clone, Copy)]
+#[derive(Drop)]
 pub struct Output {
     pub text: Text,
     pub refusal: Option<Refusal>,

@@ -2,7 +2,6 @@
 ghost use Rattle.std.specs.Prelude.{◌≡◌};
 ghost use Rattle.schedule_sheet.specs.Printed.{word_text, printed};
 ghost use Rattle.segments.specs.Promise.{figures};
-ghost use Rattle.text.specs.Text.{text_of};
 
 use demand::refusal::Refusal;
 use text::Text;
@@ -20,7 +19,7 @@ fn word(answer: Result<Option<u64>, Refusal>) -> &'static [u8]
 
 // The printed lines of an answer; figures that don't apply are 0.
 pub fn of_answer(answer: Result<Option<u64>, Refusal>) -> Text
-    ensures { result ≡ text_of (printed (figures answer)) }
+    ensures { result ≡ printed (figures answer) }
 {
     let head = text::of(b"schedule,code,tick\r\n");
     let named = text::puts(head, word(answer));

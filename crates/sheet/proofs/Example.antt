@@ -15,7 +15,6 @@ use Rattle.sheet.specs.Printed.{lines, printed}
 use Rattle.sheet.specs.Whole.{TableFigures, FileFigures, output_of}
 use Rattle.text.specs.Numbers.{decimal}
 use Rattle.text.specs.Reasons.{reason}
-use Rattle.text.specs.Text.{text_of}
 use Rattle.verdict.specs.Cases.{cases, plain}
 use Rattle.verdict.specs.Promise.{Figures, no_of}
 use Rattle.sheet.proofs.Whole.{sheet-unique}
@@ -64,7 +63,7 @@ prints : (bs : List ℕ) → FileFigures bs sheet → Prints bs case_nine_sheet
 unfolding sheet reason
 prints bs figures out s =
     sheet-unique bs out (output_of sheet) s (record { sheet = sheet; figures = figures; written = refl })
-    ∙ λ i. record { text = text_of (printed-lines i); refusal = None }
+    ∙ λ i. record { text = printed-lines i; refusal = None }
 
 pub case-nine : CaseNinePrints
 unfolding rows four_rows

@@ -1,5 +1,5 @@
 -- The two lines of a sheet fit their space, whatever count of numbers up to the most they have, and are written part by part.
-use mathlib.Core.List.{List, ◌++◌, append_assoc}
+use mathlib.Core.List.{List, ◌++◌, append_assoc, []}
 use mathlib.Core.Path.{◌≡◌, ◌∙◌}
 use native.Mathlib.Omega.{arith}
 use Prim.Native.Nat.{ℕ, ◌≤◌}
@@ -7,8 +7,7 @@ use lib.ListN.{length, length-append}
 use Rattle.sheet.specs.Printed.{heading, word_text, fields_most, lines, printed}
 use Rattle.text.specs.Ascii.{crlf}
 use Rattle.text.specs.Numbers.{fields_of}
-use Rattle.text.specs.Text.{text_most, text_of, blank_text, puts_of}
-use Rattle.text.specs.declared.Text.{Text}
+use Rattle.text.specs.Text.{text_most, puts_of}
 use Rattle.verdict.specs.Promise.{Figures, Word, numbers_of}
 use Rattle.verdict.specs.Promise.Word.{fits, misses, refused}
 use Rattle.text.proofs.Numbers.{fields-most}
@@ -26,18 +25,18 @@ lines-most w numbers few = simp length-append (omega (arith, word-most w, fields
 -- The chain of calls that writes them: the header, the word, the numbers, the line end.
 module _ (word numbers : List ℕ) where
   gathered :
-      puts_of (puts_of (puts_of (puts_of blank_text (heading ++ crlf)) word) (fields_of numbers)) crlf
-      ≡ puts_of blank_text (lines word numbers)
+      puts_of (puts_of (puts_of (puts_of [] (heading ++ crlf)) word) (fields_of numbers)) crlf
+      ≡ puts_of [] (lines word numbers)
   unfolding lines
   gathered = simp (← puts-append, append_assoc)
 
-  pub chained : {head named listed r : Text} →
-      head ≡ puts_of blank_text (heading ++ crlf) → named ≡ puts_of head word →
+  pub chained : {head named listed r : List ℕ} →
+      head ≡ puts_of [] (heading ++ crlf) → named ≡ puts_of head word →
       listed ≡ puts_of named (fields_of numbers) → r ≡ puts_of listed crlf →
-      r ≡ puts_of blank_text (lines word numbers)
+      r ≡ puts_of [] (lines word numbers)
   chained e1 e2 e3 e = cc gathered
 
 -- The figures of any answer come out as its printed lines.
-pub lines-printed : (g : Figures) (r : Text) → r ≡ puts_of blank_text (lines (word_text g.word) (numbers_of g)) → r ≡ text_of (printed g)
+pub lines-printed : (g : Figures) (r : List ℕ) → r ≡ puts_of [] (lines (word_text g.word) (numbers_of g)) → r ≡ printed g
 unfolding printed
 lines-printed g r e = e ∙ puts-blank _ (lines-most g.word (numbers_of g) (omega arith))

@@ -17,8 +17,6 @@ use Rattle.layout.specs.declared.reader.Table.{Table}
 use Rattle.sheet.specs.Printed.{printed}
 use Rattle.sheet.specs.Whole.{TableFigures, FileFigures, output_of, SheetSays, OneSheet}
 use Rattle.text.specs.Reasons.{reason}
-use Rattle.text.specs.Text.{text_of}
-use Rattle.text.specs.declared.Text.{Text}
 use Rattle.verdict.specs.Promise.{Figures, figures, refusal_of, Says, VerdictSays}
 use Rattle.verdict.specs.declared.Answer.{Answer}
 use Rattle.verdict.specs.declared.Answer.TheVariants as answer
@@ -57,8 +55,8 @@ reason-of (Ok (answer.Misses miss load)) = reason-none
 reason-of (Err e) = reason-some e
 
 -- What is written of it.
-pub sheet-says : (bs : List ℕ) (r : Result Answer Refusal) (text : Text) (refusal : Option Refusal) → FileFigures bs (figures r)
-    → text ≡ text_of (printed (figures r)) → refusal ≡ result_err r → SheetSays bs (record { text = text; refusal = refusal })
+pub sheet-says : (bs : List ℕ) (r : Result Answer Refusal) (text : List ℕ) (refusal : Option Refusal) → FileFigures bs (figures r)
+    → text ≡ printed (figures r) → refusal ≡ result_err r → SheetSays bs (record { text = text; refusal = refusal })
 sheet-says bs r text refusal told lines e =
     record { sheet = figures r; figures = told; written = λ i. record { text = lines i; refusal = (e ∙ reason-of r) i } }
 

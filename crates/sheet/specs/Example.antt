@@ -8,7 +8,6 @@ use Rattle.std.specs.Prelude.{List, ◌++◌, ◌≡◌, ℕ, None}
 use Rattle.sheet.specs.Whole.{SheetSays}
 use Rattle.sheet.specs.declared.Output.{Output}
 use Rattle.text.specs.Ascii.{ascii, crlf}
-use Rattle.text.specs.Text.{text_of}
 
 abbrev pub case_nine : List ℕ
 case_nine =
@@ -28,7 +27,7 @@ abbrev pub case_nine_sheet : List ℕ
 case_nine_sheet = ascii "verdict,code,interval,handler,task,load,left,tested" ++ crlf ++ ascii "misses,0,10,3,8,1150000,0,3" ++ crlf
 
 abbrev pub Prints : List ℕ → List ℕ → Type 0
-Prints bs ls = (out : Output) → SheetSays bs out → out ≡ record { text = text_of ls; refusal = None }
+Prints bs ls = (out : Output) → SheetSays bs out → out ≡ record { text = ls; refusal = None }
 
 abbrev pub CaseNinePrints : Type 0
 CaseNinePrints = Prints case_nine case_nine_sheet × Prints case_nine_four case_nine_sheet

@@ -15,7 +15,6 @@ use Rattle.layout.specs.Table.{list_of, misplaced}
 use Rattle.sheet.specs.Printed.{printed}
 use Rattle.sheet.specs.declared.Output.{Output}
 use Rattle.text.specs.Reasons.{reason}
-use Rattle.text.specs.Text.{text_of}
 use Rattle.verdict.specs.Promise.{Figures, refusal_of, Says}
 
 -- 13: a handler has a deadline; it comes after 3
@@ -32,7 +31,7 @@ FileFigures bs g =
     ⊎ (SaysNothing bs × (g ≡ refusal_of 12))
 
 abbrev pub output_of : Figures → Output
-output_of g = record { text = text_of (printed g); refusal = reason g.code }
+output_of g = record { text = printed g; refusal = reason g.code }
 
 pub record SheetSays (bs : List ℕ) (out : Output) : Type 0 where
   pub sheet : Figures

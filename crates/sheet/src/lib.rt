@@ -12,7 +12,7 @@ use text::Text;
 use verdict::Answer;
 
 // What is written: the two lines, and the refusal that they tell of.
-#[derive(Clone, Copy)]
+#[derive(Drop)]
 pub struct Output {
     pub text: Text,
     pub refusal: Option<Refusal>,

@@ -1,7 +1,6 @@
 // The two lines of a sheet.
 ghost use Rattle.std.specs.Prelude.{◌≡◌};
 ghost use Rattle.sheet.specs.Printed.{word_text, printed};
-ghost use Rattle.text.specs.Text.{text_of};
 ghost use Rattle.verdict.specs.Promise.{figures};
 
 use demand::refusal::Refusal;
@@ -21,7 +20,7 @@ fn word(answer: Result<Answer, Refusal>) -> &'static [u8]
 
 // The printed lines of an answer; figures that don't apply are 0.
 pub fn of_answer(answer: Result<Answer, Refusal>) -> Text
-    ensures { result ≡ text_of (printed (figures answer)) }
+    ensures { result ≡ printed (figures answer) }
 {
     let head = text::of(b"verdict,code,interval,handler,task,load,left,tested\r\n");
     let named = text::puts(head, word(answer));

@@ -16,11 +16,10 @@ use Rattle.page.specs.Laid.{end_of, laid}
 use Rattle.page.proofs.Laid.{end-room, laid-room, laid-append, laid-length}
 use Rattle.recost.specs.Inside.Scan.{cost_from, recosted}
 use Rattle.text.specs.Numbers.{decimal}
-use Rattle.text.specs.Text.{text_most, text_of, blank_text, puts_of}
-use Rattle.text.specs.declared.Text.{Text}
+use Rattle.text.specs.Text.{puts_of}
 use Rattle.text.proofs.Numbers.{decimal-most}
-use Rattle.text.proofs.Writes.{puts-blank, text-bytes}
-use Rattle.trim_file.specs.Inside.{bare_sheet, added, written, Short, Replaces, CanCut, CanWrite, output_cut, output_by}
+use Rattle.text.proofs.Writes.{puts-blank}
+use Rattle.trim_file.specs.Inside.{bare_sheet, added, written, Replaces, CanCut, CanWrite, output_cut, output_by}
 use Rattle.trim_file.specs.Printed.{cost_lines, none_lines}
 use Rattle.trim_file.specs.Whole.{page_most, output_of, page_of}
 use Rattle.trim_file.specs.declared.Output.{Output}
@@ -29,21 +28,11 @@ use Rattle.trim_file.proofs.Printed.{cost-most}
 
 -- ---- texts
 
-pub text-short : (text : Text) (xs : List ℕ) → length xs ≤ text_most → text ≡ text_of xs → Short text
-text-short text xs h e = subst Short (sym e) (record {
-  within = omega (arith, length-append xs (replicate (text_most - length xs) 0));
-  counted = sym (ap length (take-append_seam xs (replicate (text_most - length xs) 0)));
-  few = h;
-})
-
 -- A number by itself.
-pub number-text : (n m : ℕ) (b r : Text) → m ≡ n → b ≡ blank_text → r ≡ puts_of b (decimal m) → r ≡ text_of (decimal n)
+pub number-text : (n m : ℕ) (b r : List ℕ) → m ≡ n → b ≡ [] → r ≡ puts_of b (decimal m) → r ≡ decimal n
 number-text n m b r w e f =
-    f ∙ ap (λ (t : Text). puts_of t (decimal m)) e ∙ ap (λ (k : ℕ). puts_of blank_text (decimal k)) w
+    f ∙ ap (λ (t : List ℕ). puts_of t (decimal m)) e ∙ ap (λ (k : ℕ). puts_of [] (decimal k)) w
     ∙ puts-blank (decimal n) (omega (arith, decimal-most n))
-
-pub number-length : (n m : ℕ) (b r : Text) → m ≡ n → b ≡ blank_text → r ≡ puts_of b (decimal m) → r.len ≡ length (decimal n)
-number-length n m b r w e f = ap (λ (t : Text). t.len) (number-text n m b r w e f)
 
 -- ---- a page
 
@@ -92,22 +81,21 @@ output-is lines file k n sheet e h =
     λ i. record { bytes = ap (λ (s : Sheet). s.bytes) e i; lines = h i; len = ap (λ (s : Sheet). s.len) e i; refusal = k }
 
 -- The lines alone.
-pub alone-is : (text : Text) (k : Option Refusal) (bare sheet : Sheet) → length (take text.len text.bytes) ≤ page_most → bare ≡ bare_sheet
-    → sheet ≡ added bare (take text.len text.bytes)
-    → ◌≡◌ {A = Output} (record { bytes = sheet.bytes; lines = sheet.len; len = sheet.len; refusal = k }) (page_of (take text.len text.bytes) [] k)
-alone-is text k bare sheet fits b e =
-    let lines = take text.len text.bytes in
+pub alone-is : (lines : List ℕ) (k : Option Refusal) (bare sheet : Sheet) → length lines ≤ page_most → bare ≡ bare_sheet
+    → sheet ≡ added bare lines
+    → ◌≡◌ {A = Output} (record { bytes = sheet.bytes; lines = sheet.len; len = sheet.len; refusal = k }) (page_of lines [] k)
+alone-is lines k bare sheet fits b e =
     let is : sheet ≡ written (lines ++ []) =
     e ∙ ap (λ (s : Sheet). added s lines) (b ∙ bare-written) ∙ add-written [] lines (omega arith) ∙ ap written (sym (append-nil lines)) in
     output-is lines [] k sheet.len sheet is (ap (λ (s : Sheet). s.len) is ∙ written-length (lines ++ []) ∙ ap length (append-nil lines))
 
 -- The lines of a cost, by themselves.
-pub lines-written : (row code old new : ℕ) (text : Text) (bare sheet : Sheet) → text ≡ text_of (cost_lines row code old new) → bare ≡ bare_sheet
-    → sheet ≡ added bare (take text.len text.bytes) → sheet ≡ written (cost_lines row code old new)
+pub lines-written : (row code old new : ℕ) (text : List ℕ) (bare sheet : Sheet) → text ≡ cost_lines row code old new → bare ≡ bare_sheet
+    → sheet ≡ added bare text → sheet ≡ written (cost_lines row code old new)
 lines-written row code old new text bare sheet t b e =
     let lines = cost_lines row code old new in
-    e ∙ ap (λ (s : Sheet). added s (take text.len text.bytes)) (b ∙ bare-written)
-    ∙ ap (λ (bs : List ℕ). added (written []) bs) (text-bytes text lines t)
+    e ∙ ap (λ (s : Sheet). added s text) (b ∙ bare-written)
+    ∙ ap (λ (bs : List ℕ). added (written []) bs) t
     ∙ add-written [] lines (omega (arith, cost-most row code old new))
 
 module _ (bs : List ℕ) (i old new : ℕ) (r : Replaces bs i old) where
@@ -143,17 +131,17 @@ module _ (bs : List ℕ) (i old new : ℕ) (r : Replaces bs i old) where
 -- ---- the lines of an answer without a file
 
 -- of none,
-pub none-is : (i old m : ℕ) (text : Text) (out : Output) → m ≡ old → text ≡ text_of (none_lines i m)
-    → out ≡ page_of (take text.len text.bytes) [] None → out ≡ output_of (none_lines i old) [] 0
+pub none-is : (i old m : ℕ) (text : List ℕ) (out : Output) → m ≡ old → text ≡ none_lines i m
+    → out ≡ page_of text [] None → out ≡ output_of (none_lines i old) [] 0
 unfolding reason
 none-is i old m text out w t e =
-    e ∙ ap (λ (bs : List ℕ). page_of bs [] None) (text-bytes text (none_lines i m) t ∙ ap (none_lines i) w)
+    e ∙ ap (λ (bs : List ℕ). page_of bs [] None) (t ∙ ap (none_lines i) w)
 
 -- and of a refusal.
-pub refused-is : (r : Refusal) (m : ℕ) (text : Text) (out : Output) → m ≡ number_of r → text ≡ text_of (cost_lines 0 m 0 0)
-    → out ≡ page_of (take text.len text.bytes) [] (Some r) → out ≡ output_of (cost_lines 0 (number_of r) 0 0) [] (number_of r)
+pub refused-is : (r : Refusal) (m : ℕ) (text : List ℕ) (out : Output) → m ≡ number_of r → text ≡ cost_lines 0 m 0 0
+    → out ≡ page_of text [] (Some r) → out ≡ output_of (cost_lines 0 (number_of r) 0 0) [] (number_of r)
 refused-is r m text out w t e =
-    e ∙ ap (λ (bs : List ℕ). page_of bs [] (Some r)) (text-bytes text (cost_lines 0 m 0 0) t ∙ ap (λ (k : ℕ). cost_lines 0 k 0 0) w)
+    e ∙ ap (λ (bs : List ℕ). page_of bs [] (Some r)) (t ∙ ap (λ (k : ℕ). cost_lines 0 k 0 0) w)
     ∙ ap (page_of (cost_lines 0 (number_of r) 0 0) []) (reason-some r)
 
 -- ---- by what an answer is

@@ -2,7 +2,6 @@
 --   bare_sheet          == a page of zeros, nothing written
 --   added sheet bs     == the bytes bs more, behind what is written
 --   written xs         == a page on which xs is written
---   Short text         its length counts bytes of its space
 --   Replaces bs i old  the digits of the number old stand in bs where the search for the cost of task i stops, and bs is no
 --                      longer than a file may be
 --   CanWrite bs i a    where the answer a has a cost, its digits stand there; CanCut of a cut
@@ -14,8 +13,6 @@ use Rattle.layout.specs.File.{file_most}
 use Rattle.page.specs.Laid.{end_of, laid}
 use Rattle.recost.specs.Inside.Scan.{cost_from, recosted}
 use Rattle.text.specs.Numbers.{decimal}
-use Rattle.text.specs.Text.{text_most}
-use Rattle.text.specs.declared.Text.{Text}
 use Rattle.trim.specs.declared.Cut.{Cut}
 use Rattle.trim_file.specs.Printed.{cost_lines, none_lines}
 use Rattle.trim_file.specs.Whole.{page_most, output_of}
@@ -30,11 +27,6 @@ added sheet bs = record { bytes = laid sheet.bytes sheet.len bs; len = end_of (l
 
 unfoldable pub written : List ℕ → Sheet
 written xs = record { bytes = laid (replicate page_most 0) 0 xs; len = length xs }
-
-pub record Short (text : Text) : Type 0 where
-  pub within : text.len ≤ length text.bytes
-  pub counted : text.len ≡ length (take text.len text.bytes)
-  pub few : text.len ≤ text_most
 
 pub record Replaces (bs : List ℕ) (i old : ℕ) : Type 0 where
   pub within : cost_from bs i + length (decimal old) ≤ length bs

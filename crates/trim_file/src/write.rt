@@ -2,7 +2,8 @@
 ghost use Rattle.std.specs.Prelude.{[], ◌≡◌, ◌≤◌, length, take, drop};
 ghost use Rattle.recost.specs.Inside.Scan.{cost_from, recosted};
 ghost use Rattle.text.specs.Numbers.{decimal};
-ghost use Rattle.trim_file.specs.Inside.{bare_sheet, added, Short, Replaces};
+ghost use Rattle.text.specs.Text.{text_most};
+ghost use Rattle.trim_file.specs.Inside.{bare_sheet, added, Replaces};
 ghost use Rattle.trim_file.specs.Printed.{cost_lines};
 ghost use Rattle.trim_file.specs.Whole.{output_of, page_of};
 
@@ -48,8 +49,8 @@ fn replace(sheet: Sheet, input: &[u8], at: usize, behind: usize, new: u32) -> Sh
 
 // The lines alone.
 pub fn lines_alone(text: Text, refusal: Option<Refusal>) -> Output
-    requires { Short text }
-    ensures { result ≡ page_of (take text.len text.bytes) [] refusal }
+    requires { length text ≤ text_most }
+    ensures { result ≡ page_of text [] refusal }
 {
     let sheet = add(bare(), text.as_bytes());
     let bytes = sheet.bytes;
@@ -70,7 +71,7 @@ pub fn with_file(input: &[u8], row: usize, old: u32, new: u32) -> Output
 {
     let at = recost::cost_from(input, row);
     let was = text::number(text::blank(), u64::from(old));
-    let behind = at + was.len;
+    let behind = at + was.as_bytes().len();
     let told = lines::of_cost(row as u64, 0, u64::from(old), u64::from(new));
     let lines = add(bare(), told.as_bytes());
     let printed = lines.len;

@@ -1,7 +1,7 @@
-use Rattle.std.proofs.Common.{arith, ◌∙◌}
+use Rattle.std.proofs.Common.{arith, ap, length, ◌∙◌}
 use Rattle.trim_file.specs.Inside.{output_by}
 use Rattle.trim_file.proofs.Printed.{cost-most, none-most}
-use Rattle.trim_file.proofs.Written.{text-short, none-is, refused-is, cut-replaces, cut-output}
+use Rattle.trim_file.proofs.Written.{none-is, refused-is, cut-replaces, cut-output}
 use Rattle.trim_file.proofs.page_of.Goals as goal
 
 pub with_file-requires : goal.with_file-requires
@@ -11,14 +11,14 @@ pub returns-in-Some : goal.returns-in-Some
 returns-in-Some c = cut-output _ _ _ _ c.in-Ok.is _ _ c.in-Some.is c.with_file.ensures
 
 pub lines_alone-requires : goal.lines_alone-requires
-lines_alone-requires c = text-short _ _ (omega (arith, none-most c.args.row c.from.result)) c.of_none.ensures
+lines_alone-requires c = omega (arith, ap length c.of_none.ensures, none-most c.args.row c.from.result)
 
 pub returns-in-None : goal.returns-in-None
 returns-in-None c =
     cut-output _ _ _ _ c.in-Ok.is _ _ c.in-None.is (none-is _ _ _ _ _ c.from.ensures c.of_none.ensures c.lines_alone.ensures)
 
 pub lines_alone-requires-in-Err : goal.lines_alone-requires-in-Err
-lines_alone-requires-in-Err c = text-short _ _ (omega (arith, cost-most 0 c.from-in-Err.result 0 0)) c.of_cost.ensures
+lines_alone-requires-in-Err c = omega (arith, ap length c.of_cost.ensures, cost-most 0 c.from-in-Err.result 0 0)
 
 pub returns-in-Err : goal.returns-in-Err
 unfolding output_by

@@ -1,4 +1,4 @@
-use Rattle.std.proofs.Common.{◌≡◌, ℕ, arith, subst}
+use Rattle.std.proofs.Common.{◌≡◌, ◌∙◌, ℕ, arith, subst}
 use Rattle.priority_sheet.proofs.Laid.{Behind, lines-start, line-more}
 use Rattle.priority_sheet.proofs.lines.task_lines.Goals as goal
 
@@ -7,8 +7,8 @@ loop-k-init c = lines-start _ _ _ (omega (arith, c.requires.0))
 
 pub loop-k-preserved : goal.loop-k-preserved
 loop-k-preserved c =
-    line-more _ _ _ c.requires.0 _ _ _ (omega (arith, c.loop-k-test.true, c.requires.1)) c.loop-k.invariant _ _ c.task_line-line.ensures c.as_bytes.ensures _ _
-    c.lay-end.ensures
+    line-more _ _ _ c.requires.0 _ _ _ (omega (arith, c.loop-k-test.true, c.requires.1)) c.loop-k.invariant _
+    (c.as_bytes.ensures ∙ c.task_line-line.ensures) _ _ c.lay-end.ensures
 
 pub returns : goal.returns
 returns c =

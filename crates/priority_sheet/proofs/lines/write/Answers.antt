@@ -1,4 +1,4 @@
-use Rattle.std.proofs.Common.{arith}
+use Rattle.std.proofs.Common.{arith, ◌∙◌}
 use Rattle.priority_sheet.proofs.Laid.{header-ends, page-long, found-laid, refused-laid}
 use Rattle.priority_sheet.proofs.lines.write.Goals as goal
 
@@ -15,4 +15,4 @@ returns-in-Ok c =
 
 pub returns-in-Err : goal.returns-in-Err
 returns-in-Err c =
-    refused-laid _ _ _ c.told-page c.lay-at.ensures c.args.sheet _ c.in-Err.is _ _ c.refused_line.ensures c.as_bytes.ensures _ _ c.lay.ensures
+    refused-laid _ _ _ c.told-page c.lay-at.ensures c.args.sheet _ c.in-Err.is _ (c.as_bytes.ensures ∙ c.refused_line.ensures) _ _ c.lay.ensures

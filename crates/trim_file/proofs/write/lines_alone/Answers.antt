@@ -5,5 +5,5 @@ use Rattle.trim_file.proofs.write.lines_alone.Goals as goal
 
 pub returns : goal.returns
 returns c =
-    alone-is c.args.text c.args.refusal _ _ (omega (arith, c.requires.few, c.requires.counted)) c.bare.ensures
+    alone-is c.args.text c.args.refusal _ _ (omega (arith, c.requires)) c.bare.ensures
     (c.add-sheet.ensures ∙ ap (λ (bs : List ℕ). added c.bare.result bs) c.as_bytes.ensures)

@@ -1,6 +1,5 @@
 use Rattle.std.proofs.Common.{List, ℕ, drop, ap, ◌∙◌}
 use Rattle.demand.proofs.Inside.Slices.{from_is}
-use Rattle.text.proofs.Writes.{text-bytes}
 use Rattle.text.specs.Numbers.{decimal}
 use Rattle.trim_file.specs.Inside.{added}
 use Rattle.trim_file.specs.declared.write.Sheet.{Sheet}
@@ -9,7 +8,7 @@ use Rattle.trim_file.proofs.write.replace.Goals as goal
 
 pub returns : goal.returns
 returns c =
-    let digits = c.as_bytes.ensures ∙ text-bytes _ (decimal c.args.new) (number-text c.args.new _ _ _ c.from.ensures c.blank.ensures c.number-number.ensures) in
+    let digits = c.as_bytes.ensures ∙ number-text c.args.new _ _ _ c.from.ensures c.blank.ensures c.number-number.ensures in
     c.add.ensures
     ∙ ap (λ (bs : List ℕ). added c.add-digits.result bs) (from_is c.args.behind c.args.input.now)
     ∙ ap (λ (s : Sheet). added s (drop c.args.behind c.args.input.now))
