@@ -12,7 +12,7 @@ ghost use Rattle.text.specs.Text.{blank_text, put_of, puts_of};
 // The most bytes of a text. A sheet has 155 with its five figures of 20 digits each; with two more and their names, 209.
 pub const TEXT_MOST: usize = 224;
 
-// A text, and zeros behind.
+// A text, and zeros behind: there is no heap, and `text_of` says every byte.
 #[derive(Clone, Copy)]
 pub struct Text {
     pub bytes: [u8; TEXT_MOST],
