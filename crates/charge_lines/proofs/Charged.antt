@@ -18,7 +18,7 @@ use Rattle.charges.proofs.Once.{charge-unique}
 use Rattle.demand.specs.declared.table.Kind.TheVariants.{Task, Handler}
 use Rattle.layout.specs.File.{Entry, FileSays, SaysNothing}
 use Rattle.layout.specs.Refusals.{Misplaces, TableIn}
-use Rattle.layout.specs.Table.{list_of, misplaced, listed}
+use Rattle.layout.specs.Table.{list_of, misplaced}
 use Rattle.layout.specs.declared.reader.Table.{Table}
 use Rattle.layout.proofs.File.{says-unique}
 use Rattle.layout.proofs.Table.{table-lists, table-refused}
@@ -49,7 +49,7 @@ module _ (bs : List ℕ) (q : ℕ) where
         go (inr n) = inr (inside, inr (n.0, ap Err n.1))
 
     pub answers-charged : (t : Table) (ts hs : List ℕ) (a : Result Charged Refusal) → TableIn bs (Ok t)
-        → ts ≡ listed t.tasks → hs ≡ listed t.handlers → ChargeSays ts hs q a → FileAnswers bs q a
+        → ts ≡ t.tasks → hs ≡ t.handlers → ChargeSays ts hs q a → FileAnswers bs q a
     unfolding FileAnswers AnswerIn
     answers-charged t ts hs a told tasks handlers says =
         let l = table-lists bs t told in

@@ -17,7 +17,7 @@ pub const NAME_MOST: usize = 4095;
 // The most bytes of a line: a name whose every byte is a quote, in quotes, and its figures.
 pub const LINE_MOST: usize = 8416;
 
-// A line, and zeros behind.
+// A line, and zeros behind: there is no heap, and `printed` says every byte.
 #[derive(Clone, Copy)]
 pub struct Line {
     pub bytes: [u8; LINE_MOST],

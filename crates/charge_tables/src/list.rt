@@ -42,7 +42,8 @@ fn without_cr(buf: &[u8], count: usize) -> usize
     }
 }
 
-// The next name: how many bytes up to an LF, or up to the end where there are any, as many as there is room for. None where the list is over.
+// The next name: how many bytes up to an LF, or up to the end where there are any, as many as there is room for. None where the list is
+// over.
 pub fn next<R: Read>(input: &mut R, buf: &mut [u8]) -> Result<Option<usize>, ReadFailed>
     ensures { IfOk result (λ name. IfSome name (λ n. n ≤ length buf.new)) }
 {

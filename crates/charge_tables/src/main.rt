@@ -77,7 +77,7 @@ fn unwritten(rt: &HostRuntime) {
 // The greatest number of a refusal, and more.
 const NUMBER_MOST: u64 = 99;
 
-// Says why the table in a line of the list is refused.
+// Says why the table in a line of the list is refused; figures tell its number alone.
 fn explain(rt: &HostRuntime, line: u64, number: u64) {
     if (number == 0) | (NUMBER_MOST < number) {
         return;

@@ -12,12 +12,13 @@ use std::rt::Files;
 use std::str;
 use text::Text;
 
-// Reads until a read answers that the input has ended, or there is no room left: how many bytes. None where a read fails, whatever a later
-// read would answer: a connection that was reset says so once, and then that it has ended.
+// Reads until a read answers that the input has ended, or there is no room left: how many bytes. None where a read fails, whatever a
+// later read would answer: a connection that was reset says so once, and then that it has ended.
 pub fn read_whole<R: Read>(input: &mut R, buf: &mut [u8]) -> Option<usize>
     ensures { IfSome result (λ n. IsPrefixLen n buf.new) }
 {
     let mut done = 0;
+    // Each read says how far this comes, so no range can.
     while done < buf.len() {
         let more = input.read(&mut buf[done..]).ok()?;
         if more == 0 {
@@ -28,7 +29,8 @@ pub fn read_whole<R: Read>(input: &mut R, buf: &mut [u8]) -> Option<usize>
     Some(done)
 }
 
-// Reads standard input whole into the room lent, and hands it on; where it cannot be read to its end, a line says so in the program's name.
+// Reads standard input whole into the room lent, and hands it on; where it cannot be read to its end, a line says so in the program's
+// name.
 pub fn with_input<F: FnOnce(&[u8])>(rt: &HostRuntime, program: &[u8], room: &mut [u8], then: F)
     requires { F.IsAlwaysCallable then }
 {
@@ -71,7 +73,7 @@ pub fn print<P: Print>(out: &P, text: Text) -> bool {
     say(out, text.as_bytes())
 }
 
-// Says on standard error why there is no verdict: the number of the refusal and its English line.
+// Says on standard error why there is no verdict: the number of the refusal, as figures tell it, and its English line.
 pub fn explain<P: Print>(err: &P, number: u32) {
     say(err, b"refused ");
     say_number(err, u64::from(number));
@@ -80,7 +82,8 @@ pub fn explain<P: Print>(err: &P, number: u32) {
     say(err, b"\n");
 }
 
-// Writes what a program answers; a line in its name says where that could not be written whole, and where it is refused, the reason follows.
+// Writes what a program answers; a line in its name says where that could not be written whole, and where it is refused, the reason
+// follows.
 pub fn answer(rt: &HostRuntime, bytes: &[u8], unwritten: &[u8], refusal: Option<Refusal>) {
     if !say(&rt.stdout(), bytes) {
         say(&rt.stderr(), unwritten);

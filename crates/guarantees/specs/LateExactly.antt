@@ -26,4 +26,5 @@ abbrev pub LateAt : List ℕ → List ℕ → ℕ → Type 0
 LateAt t h l = LateAtBy due_of t h l
 
 abbrev pub LateExactly : Type 0
-LateExactly = (t h : List ℕ) (r : Result verdict.Answer Refusal) → VerdictSays t h r → (figures r).word ≡ misses → LateAt t h (figures r).interval
+LateExactly =
+    (t h : List ℕ) (r : Result verdict.Answer Refusal) → VerdictSays t h r → (figures r).word ≡ misses → LateAt t h (figures r).interval

@@ -41,7 +41,8 @@ OnTimeByPriority =
 
 abbrev pub FitsByDeadline : Type 0
 FitsByDeadline =
-    (t h : List ℕ) (p : Result (List ℕ) Refusal) (r : Result verdict.Answer Refusal) → EachResponds t h p → verdict_refusal t h ≡ 0 → VerdictSays t h r
+    (t h : List ℕ) (p : Result (List ℕ) Refusal) (r : Result verdict.Answer Refusal) → EachResponds t h p
+    → verdict_refusal t h ≡ 0 → VerdictSays t h r
     → (figures r).word ≡ fits
 
 -- the task of place i in our machine's synchronous run by priority, at the clock of its first deadline
@@ -63,4 +64,5 @@ LateByPriority =
 
 abbrev pub RespondsExactly : Type 0
 RespondsExactly =
-    (t h : List ℕ) (p : Result (List ℕ) Refusal) → priority.ResponsesSay t h p → (priority.figures p).code ≡ 0 → NeverOver period_of t h → EachResponds t h p
+    (t h : List ℕ) (p : Result (List ℕ) Refusal) → priority.ResponsesSay t h p → (priority.figures p).code ≡ 0 → NeverOver period_of t h
+    → EachResponds t h p

@@ -144,7 +144,7 @@ fn in_digits(kind: Kind, j: usize, v: u64, b: u8) -> State
     }
 }
 
-// Where the byte b takes a reader that stands at st.
+// Where the byte b takes a reader that stands at st; table files and schedule files have states of their own.
 pub fn step(st: State, b: u8) -> State
     ensures { result ≡ after_byte st b }
 {

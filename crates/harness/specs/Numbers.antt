@@ -12,7 +12,8 @@
 --   FreshLaid, StepLaid    what a call leaves, of an answer that the promise of `fresh` or of a step by this key allows
 --   FreshLaidUnique, StepLaidUnique   and so nothing else
 --   RefusedKeeps           a refused step leaves the numbers of the run exactly as they were
-use Rattle.std.specs.Prelude.{Bool, true, false, not, List, [], ◌∷◌, ◌++◌, Option, None, Some, Result, Ok, Err, ◌≡◌, ℕ, ◌+◌, ◌-◌, ◌≤◌, ◌<◌, eqb, get_or}
+use Rattle.std.specs.Prelude.{Bool, true, false, not, List, [], ◌∷◌, ◌++◌, Option, None, Some}
+use Rattle.std.specs.Prelude.{Result, Ok, Err, ◌≡◌, ℕ, ◌+◌, ◌-◌, ◌≤◌, ◌<◌, eqb, get_or}
 use Rattle.demand.specs.Limits.{tasks_most}
 use Rattle.demand.specs.Numbered.{number_of, refused as told}
 use Rattle.demand.specs.Tests.{pick}

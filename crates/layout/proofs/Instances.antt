@@ -6,7 +6,6 @@ use mathlib.Core.Logic.{inl, inr}
 use mathlib.Core.Path.{◌≡◌, refl}
 use native.Mathlib.Omega.{arith}
 use Prim.Native.Nat.{ℕ}
-use lib.ListN.{take}
 use Rattle.demand.specs.declared.table.Kind.TheVariants.{Task, Handler}
 use Rattle.layout.specs.File.{Entry, entry, FileSays}
 use Rattle.std.specs.Prelude.{Result, Ok}
@@ -43,14 +42,14 @@ only : (r : Result Table Refusal) → ReadSays mixed_file r → r ≡ Ok (table_
 unfolding ReadSays
 only r read = read-unique mixed_file r (Ok (table_of rows)) read (inl (rows, says, refl))
 
--- The two lists of what is read, and how long they are.
+-- The two lists of what is read.
 pub tasks-in-order : (r : Result Table Refusal) → ReadSays mixed_file r
-    → (t : Table) × (r ≡ Ok t) × (take 6 t.tasks.numbers ≡ 1 ∷ 20 ∷ 2 ∷ 3 ∷ 4 ∷ 4 ∷ []) × (t.tasks.len ≡ 6)
-tasks-in-order r read = (table_of rows, only r read, refl, refl)
+    → (t : Table) × (r ≡ Ok t) × (t.tasks ≡ 1 ∷ 20 ∷ 2 ∷ 3 ∷ 4 ∷ 4 ∷ [])
+tasks-in-order r read = (table_of rows, only r read, refl)
 
 pub handlers-in-order : (r : Result Table Refusal) → ReadSays mixed_file r
-    → (t : Table) × (r ≡ Ok t) × (take 4 t.handlers.numbers ≡ 5 ∷ 6 ∷ 7 ∷ 8 ∷ []) × (t.handlers.len ≡ 4)
-handlers-in-order r read = (table_of rows, only r read, refl, refl)
+    → (t : Table) × (r ≡ Ok t) × (t.handlers ≡ 5 ∷ 6 ∷ 7 ∷ 8 ∷ [])
+handlers-in-order r read = (table_of rows, only r read, refl)
 
 -- It is read, and no handler of it has a deadline.
 pub is_read : (r : Result Table Refusal) → ReadSays mixed_file r → (t : Table) × (r ≡ Ok t) × (t.misplaced ≡ false)

@@ -1,17 +1,15 @@
--- The reader's answer: the table built is that of the rows that the file says, there is no other, and its lists can be lent.
+-- The reader's answer: the table built is that of the rows that the file says, there is no other.
 use mathlib.Core.Bool.{true, false}
 use mathlib.Core.List.{List}
 use mathlib.Core.Logic.{◌⊎◌, inl, inr}
 use mathlib.Core.Path.{◌≡◌, refl, sym, ap, subst, ◌∙◌}
 use native.Mathlib.Omega.{arith}
-use Prim.Native.Nat.{ℕ, zero, suc, ◌-◌, ◌≤◌, ◌<◌}
+use Prim.Native.Nat.{ℕ, zero, suc, ◌<◌}
 use lib.Dec.{eqb, eqb-suc-zero}
 use Rattle.demand.specs.Numbered.{number_of}
 use Rattle.demand.specs.Refusals.{table_refusal}
 use Rattle.demand.proofs.Numbered.{number-pos}
 use Rattle.demand.specs.Tests.{pick}
-use lib.ListN.{length, replicate, length-append}
-use lib.Seq.{take-append_seam}
 use Rattle.demand.specs.declared.table.Kind.TheVariants.{Task, Handler}
 use Rattle.std.specs.Prelude.{Option, Some, None, Result, Ok, Err}
 use Rattle.demand.specs.declared.refusal.Refusal.{Refusal}
@@ -19,8 +17,7 @@ use Rattle.demand.specs.declared.refusal.Refusal.TheVariants.{FileMalformed, Dea
 use Rattle.layout.specs.File.{Entry, FileSays, SaysNothing}
 use Rattle.layout.specs.Refusals.{refusal_in, Misplaces, TableIn}
 use Rattle.layout.specs.Inside.Building.{outcome}
-use Rattle.layout.specs.Table.{list_of, misplaced, flat_most, flat_of, listed, table_of, ReadSays, OneReading}
-use Rattle.layout.specs.declared.reader.Flat.{Flat}
+use Rattle.layout.specs.Table.{list_of, misplaced, table_of, ReadSays, OneReading}
 use Rattle.layout.specs.declared.reader.Table.{Table}
 use Rattle.layout.proofs.File.{never, sound, complete, says-unique}
 use Rattle.layout.proofs.Inside.Builds.{table_for}
@@ -42,37 +39,15 @@ read-unique bs t u (inl a) (inr b) = absurd (b.0 a.0 a.1)
 read-unique bs t u (inr a) (inl b) = absurd (a.0 b.0 b.1)
 read-unique bs t u (inr a) (inr b) = a.1 ∙ sym b.1
 
--- ---- a flat list, and the numbers in it
-
-pub flat-listed : (s : List ℕ) → listed (flat_of s) ≡ s
-flat-listed s = take-append_seam s (replicate (flat_most - length s) 0)
-
--- What lending the numbers in it asks.
-abbrev Counted : Flat → Type 0
-Counted f = (f.len ≤ length f.numbers) × (f.len ≡ length (listed f))
-
-flat-counted : (s : List ℕ) → Counted (flat_of s)
-flat-counted s = (rw length-append (omega arith), ap length (sym (flat-listed s)))
-
-abbrev BothCounted : Table → Type 0
-BothCounted t = Counted t.tasks × Counted t.handlers
-
-pub read-counted : (bs : List ℕ) (t : Table) → ReadSays bs (Ok t) → BothCounted t
-unfolding ReadSays
-read-counted bs t (inl r) =
-    let told : t ≡ table_of r.0 = cc in
-    subst BothCounted (sym told) (flat-counted (list_of Task r.0), flat-counted (list_of Handler r.0))
-read-counted bs t (inr r) = absurd (cc)
-
 -- ---- the table of a file
 
--- It is told whole, and its lists can be lent.
+-- It is told whole.
 pub record Lists (bs : List ℕ) (t : Table) : Type 0 where
   pub rows : List Entry
   pub says : FileSays bs rows
   pub placed : misplaced rows ≡ false
-  pub tasks : listed t.tasks ≡ list_of Task rows
-  pub handlers : listed t.handlers ≡ list_of Handler rows
+  pub tasks : t.tasks ≡ list_of Task rows
+  pub handlers : t.handlers ≡ list_of Handler rows
 
 pub table-lists : (bs : List ℕ) (t : Table) → TableIn bs (Ok t) → Lists bs t
 unfolding TableIn
@@ -81,8 +56,8 @@ table-lists bs t told =
       rows = told.0;
       says = told.1.says;
       placed = told.1.placed;
-      tasks = ap (λ (u : Table). listed u.tasks) told.2 ∙ flat-listed (list_of Task told.0);
-      handlers = ap (λ (u : Table). listed u.handlers) told.2 ∙ flat-listed (list_of Handler told.0);
+      tasks = ap (λ (u : Table). u.tasks) told.2;
+      handlers = ap (λ (u : Table). u.handlers) told.2;
     }
 
 pub table-refused : (bs : List ℕ) (e : Refusal) → TableIn bs (Err e) → Misplaces bs e ⊎ (SaysNothing bs × (e ≡ FileMalformed))
@@ -104,7 +79,7 @@ table-in-placed bs t (inr r) e = absurd (cc)
 
 -- Where a handler has a deadline, the table's own refusal comes before 13.
 table-in-misplaced : (bs : List ℕ) (t : Table) (e : Refusal) → ReadSays bs (Ok t) → t.misplaced ≡ true
-    → number_of e ≡ refusal_in true (listed t.tasks) (listed t.handlers) → TableIn bs (Err e)
+    → number_of e ≡ refusal_in true t.tasks t.handlers → TableIn bs (Err e)
 unfolding TableIn ReadSays
 table-in-misplaced bs t e (inl r) m n =
     let is : t ≡ table_of r.0 = cc in
@@ -113,9 +88,7 @@ table-in-misplaced bs t e (inl r) m n =
       says = r.1;
       placed = sym (ap (λ (u : Table). u.misplaced) is) ∙ m;
       number =
-          n ∙ ap (λ (u : Table). refusal_in true (listed u.tasks) (listed u.handlers)) is
-          ∙ ap (λ (s : List ℕ). refusal_in true s (listed (flat_of (list_of Handler r.0)))) (flat-listed (list_of Task r.0))
-          ∙ ap (λ (s : List ℕ). refusal_in true (list_of Task r.0) s) (flat-listed (list_of Handler r.0));
+          n ∙ ap (λ (u : Table). refusal_in true u.tasks u.handlers) is;
     })
 table-in-misplaced bs t e (inr r) m n = absurd (cc)
 
@@ -129,9 +102,9 @@ own-none zero e = refl
 own-none (suc k) e = absurd (omega arith)
 
 module _ (bs : List ℕ) (t : Table) (read : ReadSays bs (Ok t)) (m : t.misplaced ≡ true) (ts hs : List ℕ)
-    (tasks : ts ≡ listed t.tasks) (handlers : hs ≡ listed t.handlers) where
-  lent : table_refusal ts hs ≡ table_refusal (listed t.tasks) (listed t.handlers)
-  lent = ap (λ (s : List ℕ). table_refusal s hs) tasks ∙ ap (λ (s : List ℕ). table_refusal (listed t.tasks) s) handlers
+    (tasks : ts ≡ t.tasks) (handlers : hs ≡ t.handlers) where
+  lent : table_refusal ts hs ≡ table_refusal t.tasks t.handlers
+  lent = ap (λ (s : List ℕ). table_refusal s hs) tasks ∙ ap (λ (s : List ℕ). table_refusal t.tasks s) handlers
 
   pub misplaced-own : (e : Refusal) → number_of e ≡ table_refusal ts hs → TableIn bs (Err e)
   misplaced-own e n = table-in-misplaced bs t e read m (own-first _ (number_of e) (number-pos e) (n ∙ lent))

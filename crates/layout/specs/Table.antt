@@ -3,20 +3,17 @@
 --   entry_numbers kind e == the numbers of the row e where it is of this kind: cost, period and, for a task, deadline
 --   list_of kind es      == the flat list of the rows of this kind, in their order
 --   flat_most            == the most numbers of a list: three for a row
---   flat_of s            == the list s with zeros behind, up to that many places, and its length
---   listed f             == the numbers in the list f
 --   misplaced es        == some handler of es has a deadline
 --   table_of es          == the table of the rows es
 --   bare_table           == a table without rows
 --   ReadSays bs r       r is the reader's answer to the file bs: the table of the rows that it says, or 12 where it says none
 --   OneReading          a file has one such answer and no other: a statement about ReadSays
-use Rattle.std.specs.Prelude.{Bool, true, false, ◌||◌, List, [], ◌∷◌, ◌++◌, ◌⊎◌, ◌≡◌, ℕ, ◌-◌, ◌*◌, length, replicate, take, Result, Ok, Err}
+use Rattle.std.specs.Prelude.{Bool, true, false, ◌||◌, List, [], ◌∷◌, ◌++◌, ◌⊎◌, ◌≡◌, ℕ, ◌*◌, Result, Ok, Err}
 use Rattle.demand.specs.declared.refusal.Refusal.{Refusal}
 use Rattle.demand.specs.declared.refusal.Refusal.TheVariants.{FileMalformed}
 use Rattle.demand.specs.declared.table.Kind.{Kind}
 use Rattle.demand.specs.declared.table.Kind.TheVariants.{Task, Handler}
 use Rattle.layout.specs.File.{Entry, entry, rows_most, FileSays, SaysNothing}
-use Rattle.layout.specs.declared.reader.Flat.{Flat}
 use Rattle.layout.specs.declared.reader.Table.{Table}
 use Rattle.layout.specs.declared.steps.Last.{Last}
 use Rattle.layout.specs.declared.steps.Last.TheVariants.{NoField, Empty, Number}
@@ -52,14 +49,8 @@ misplaced (e ∷ es) = misplaced_in e || misplaced es
 abbrev pub flat_most : ℕ
 flat_most = 3 * rows_most
 
-abbrev pub flat_of : List ℕ → Flat
-flat_of s = record { numbers = s ++ replicate (flat_most - length s) 0; len = length s }
-
-abbrev pub listed : Flat → List ℕ
-listed f = take f.len f.numbers
-
 abbrev pub table_of : List Entry → Table
-table_of es = record { misplaced = misplaced es; tasks = flat_of (list_of Task es); handlers = flat_of (list_of Handler es) }
+table_of es = record { misplaced = misplaced es; tasks = list_of Task es; handlers = list_of Handler es }
 
 abbrev pub bare_table : Table
 bare_table = table_of []

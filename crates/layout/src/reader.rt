@@ -1,14 +1,15 @@
 // The file reader: bytes in, a table out, or the word that the file breaks the layout.
 ghost use Rattle.std.specs.Prelude.{◌≡◌, ◌<◌};
 ghost use Rattle.layout.specs.File.{entry};
-ghost use Rattle.layout.specs.Inside.Building.{Room, longer, pushed, fed, table_at_end};
+ghost use Rattle.layout.specs.Inside.Building.{Room, pushed, fed, table_at_end};
 ghost use Rattle.layout.specs.Inside.Steps.{columns_of};
 ghost use Rattle.layout.specs.Refusals.{TableIn};
-ghost use Rattle.layout.specs.Table.{deadline_of, is_number, flat_most, listed, bare_table, ReadSays};
+ghost use Rattle.layout.specs.Table.{deadline_of, is_number, bare_table, ReadSays};
 
 use crate::steps::{Last, State};
 use crate::words::Columns;
 use crate::{steps, words};
+use demand::flat::Flat;
 use demand::refusal;
 use demand::refusal::Refusal;
 use demand::table::Kind;
@@ -22,41 +23,25 @@ const ROWS_MOST: usize = 408;
 // The most numbers of a list: three for a row.
 const FLAT_MOST: usize = 3 * ROWS_MOST;
 
-// A flat list of rows, two or three numbers each, and zeros behind.
-#[derive(Clone, Copy)]
-pub struct Flat {
-    pub numbers: [u32; FLAT_MOST],
-    pub len: usize,
-}
-
-impl Flat {
-    // The numbers in it.
-    pub fn list(&self) -> &[u32]
-        ensures { result.now ≡ listed self.now }
-    {
-        &self.numbers[..self.len.min(FLAT_MOST)]
-    }
-}
-
 // What a file says, and whether a handler has a deadline in it.
-#[derive(Clone, Copy)]
+#[derive(Drop)]
 pub struct Table {
     pub misplaced: bool,
-    pub tasks: Flat,
-    pub handlers: Flat,
+    pub tasks: Flat<FLAT_MOST>,
+    pub handlers: Flat<FLAT_MOST>,
 }
 
 impl Table {
     pub fn tasks(&self) -> &[u32]
-        ensures { result.now ≡ listed self.now.tasks }
+        ensures { result.now ≡ self.now.tasks }
     {
-        self.tasks.list()
+        self.tasks.as_slice()
     }
 
     pub fn handlers(&self) -> &[u32]
-        ensures { result.now ≡ listed self.now.handlers }
+        ensures { result.now ≡ self.now.handlers }
     {
-        self.handlers.list()
+        self.handlers.as_slice()
     }
 }
 
@@ -64,26 +49,11 @@ impl Table {
 fn bare() -> Table
     ensures { result ≡ bare_table }
 {
-    let rows = Flat {
-        numbers: [0; FLAT_MOST],
-        len: 0,
-    };
     Table {
         misplaced: false,
-        tasks: rows,
-        handlers: rows,
+        tasks: Flat::new(),
+        handlers: Flat::new(),
     }
-}
-
-// One number more.
-fn with_number(mut rows: Flat, x: u32) -> Flat
-    requires { rows.len < flat_most }
-    ensures { result ≡ longer rows x }
-{
-    let n = rows.len;
-    rows.numbers[n] = x;
-    rows.len = n + 1;
-    rows
 }
 
 // The deadline of a task: its period where its row has no number for it.
@@ -104,27 +74,23 @@ fn is_number(last: Last) -> bool
 }
 
 // One row more.
-fn push(t: Table, kind: Kind, cost: u32, period: u32, last: Last) -> Table
+fn push(mut t: Table, kind: Kind, cost: u32, period: u32, last: Last) -> Table
     requires { Room t }
     ensures { result ≡ pushed t (entry kind cost period last) }
 {
-    let tasks = t.tasks;
-    let handlers = t.handlers;
     match kind {
-        Kind::Task => Table {
-            misplaced: t.misplaced,
-            tasks: with_number(
-                with_number(with_number(tasks, cost), period),
-                deadline_of(period, last),
-            ),
-            handlers,
-        },
-        Kind::Handler => Table {
-            misplaced: is_number(last) | t.misplaced,
-            tasks,
-            handlers: with_number(with_number(handlers, cost), period),
-        },
+        Kind::Task => {
+            t.tasks.push(cost);
+            t.tasks.push(period);
+            t.tasks.push(deadline_of(period, last));
+        }
+        Kind::Handler => {
+            t.misplaced = is_number(last) | t.misplaced;
+            t.handlers.push(cost);
+            t.handlers.push(period);
+        }
     }
+    t
 }
 
 // The table after the byte b: it ends a row where a CR and the LF do.

@@ -193,7 +193,7 @@ fn in_digits(columns: Columns, place: Place, v: u32, b: u8) -> State
     }
 }
 
-// Where the byte b takes a reader that stands at st.
+// Where the byte b takes a reader that stands at st; schedule files and files of guards have states of their own.
 pub fn step(columns: Columns, st: State, b: u8) -> State
     ensures { result ≡ after_byte columns st b }
 {

@@ -67,7 +67,11 @@ fn of_table(rt: &HostRuntime, table: &Table, span: u64) {
 fn print_all(rt: &HostRuntime, out: &[u64], count: usize) {
     let mut well = console::say(&rt.stdout(), b"row,from,to\r\n");
     for segment in out.chunks_exact(SEGMENT_WIDTH).take(count) {
-        let kind = if segment[0] == 0 { Kind::Task } else { Kind::Handler };
+        let kind = if segment[0] == 0 {
+            Kind::Task
+        } else {
+            Kind::Handler
+        };
         let line = own_sheet::line(kind, segment[1], segment[2], segment[3]);
         well &= console::print(&rt.stdout(), line);
     }

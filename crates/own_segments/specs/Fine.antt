@@ -35,6 +35,6 @@ JudgedFine =
 
 abbrev pub JudgedLate : Type 0
 JudgedLate =
-    (t h : List ℕ) (L : ℕ) (r : Result verdict.Answer Refusal) (a : Result (Option ℕ) Refusal) → VerdictSays t h r → (figures r).word ≡ misses
-    → own_refusal t h L ≡ 0 → length (own_segments t h L) ≤ judge.segments_most → (figures r).interval ≤ L
+    (t h : List ℕ) (L : ℕ) (r : Result verdict.Answer Refusal) (a : Result (Option ℕ) Refusal) → VerdictSays t h r
+    → (figures r).word ≡ misses → own_refusal t h L ≡ 0 → length (own_segments t h L) ≤ judge.segments_most → (figures r).interval ≤ L
     → judge.JudgeSays t h (numbers_of (own_segments t h L)) L a → judge.figures a ≡ judge.broken_of (figures r).interval

@@ -22,7 +22,7 @@ use Rattle.demand.proofs.Numbered.{answered-ok, answered-err}
 use Rattle.demand.proofs.Refusals.{refusal-in-range}
 use Rattle.layout.specs.File.{Entry, SaysNothing}
 use Rattle.layout.specs.Refusals.{refusal_in, Misplaces, TableIn}
-use Rattle.layout.specs.Table.{list_of, misplaced, listed}
+use Rattle.layout.specs.Table.{list_of, misplaced}
 use Rattle.layout.specs.declared.reader.Table.{Table}
 use Rattle.layout.proofs.File.{says-unique}
 use Rattle.layout.proofs.Table.{table-lists, table-refused}
@@ -66,7 +66,7 @@ module _ (bs : List ℕ) where
           )
       go (inr n) = inr (n.0, ap Err n.1)
 
-  module _ (t : Table) (told : TableIn bs (Ok t)) (ts hs : List ℕ) (tasks : ts ≡ listed t.tasks) (handlers : hs ≡ listed t.handlers) where
+  module _ (t : Table) (told : TableIn bs (Ok t)) (ts hs : List ℕ) (tasks : ts ≡ t.tasks) (handlers : hs ≡ t.handlers) where
     -- the promise of `responses` over the file's rows
     lent : (r : Result (List ℕ) Refusal) → ResponsesSay ts hs r
         → ResponsesSay (list_of Task (table-lists bs t told).rows) (list_of Handler (table-lists bs t told).rows) r

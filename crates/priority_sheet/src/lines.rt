@@ -39,6 +39,7 @@ fn task_lines(page: &mut [u8], at: usize, responses: &Responses) -> usize
         (page.new ≡ over.laid page.old at (task_lines responses.now.least responses.now.count)) }
 {
     let mut end = at;
+    // The line tells k.
     for k in 0..responses.count {
         let line = task_line(k as u64, responses.least[k]);
         end = page::lay(page, end, line.as_bytes());

@@ -38,6 +38,7 @@ fn zeros() -> [u64; NUMBERS]
     [0; NUMBERS]
 }
 
+// As `kind_number` says it, case by case.
 fn kind_number(kind: Kind) -> u64
     ensures { result ≡ kind_number kind }
 {

@@ -126,7 +126,7 @@ fn in_digits(place: Place, v: u64, b: u8) -> State
     }
 }
 
-// Where the byte b takes a reader that stands at st.
+// Where the byte b takes a reader that stands at st; table files and files of guards have states of their own.
 pub fn step(st: State, b: u8) -> State
     ensures { result ≡ after_byte st b }
 {

@@ -13,7 +13,6 @@ use Rattle.demand.specs.declared.refusal.Refusal.TheVariants.{FileMalformed}
 use Rattle.demand.specs.declared.table.Kind.TheVariants.{Task, Handler}
 use Rattle.layout.specs.File as table
 use Rattle.layout.specs.Refusals.{Misplaces, TableIn}
-use Rattle.layout.specs.Table as lists
 use Rattle.layout.specs.Table.{list_of, misplaced}
 use Rattle.layout.specs.declared.reader.Table.{Table}
 use Rattle.layout.proofs.File as table-laws
@@ -81,7 +80,7 @@ module _ (tb bs : List ℕ) (L : ℕ) where
 
   -- and what is judged of the lists that are lent.
   pub file-judged : (t : Table) (ts hs : List ℕ) (r : Result (Option ℕ) Refusal) → TableIn tb (Ok t)
-      → ts ≡ lists.listed t.tasks → hs ≡ lists.listed t.handlers → ScheduleFigures ts hs bs L (figures r) → FileFigures tb bs L (figures r)
+      → ts ≡ t.tasks → hs ≡ t.handlers → ScheduleFigures ts hs bs L (figures r) → FileFigures tb bs L (figures r)
   unfolding TableFigures
   file-judged t ts hs r told tasks handlers says =
       let l = table-lists tb t told in

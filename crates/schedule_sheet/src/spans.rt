@@ -7,7 +7,7 @@ use text::spelled;
 // The first number that has more digits than a span may have; it is above every H.
 const SPAN_LIMIT: u64 = 10_000_000_000;
 
-// The span that is said, or one above every H where that is no number: it is refused as such a span is.
+// The span that is said, or one above every H where that is no number: it is refused as such a span is (`span_said`).
 pub fn span_said(said: &[u8]) -> u64
     ensures { result ≡ span_said said.now }
 {

@@ -15,7 +15,8 @@
 --   next_with, due_with, owed_with r ws   == what the rows of run r have after the arrivals ws
 --   key_in, ran_by, late_by key r ws      == then the key of each task, who runs, and who is late at the end of the tick
 --   ticked_by key r ws         == all of it, with the arrivals ws, where of the tasks owed work the one with the smallest key runs
-use Rattle.std.specs.Prelude.{Bool, true, ◌&&◌, List, Option, None, Some, is_some, Ok, ◌≡◌, ℕ, zero, suc, ◌+◌, ◌-◌, ◌≤◌, ◌<◌, ltb, eqb, get_or, set}
+use Rattle.std.specs.Prelude.{Bool, true, ◌&&◌, List, Option, None, Some, is_some, Ok, ◌≡◌}
+use Rattle.std.specs.Prelude.{ℕ, zero, suc, ◌+◌, ◌-◌, ◌≤◌, ◌<◌, ltb, eqb, get_or, set}
 use Rattle.demand.specs.Rows.{Row}
 use Rattle.demand.specs.Tests.{pick}
 use Rattle.machine.specs.Live.{Live}

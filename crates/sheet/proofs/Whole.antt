@@ -12,7 +12,7 @@ use Rattle.demand.specs.declared.refusal.Refusal.TheVariants.{FileMalformed}
 use Rattle.demand.specs.declared.table.Kind.TheVariants.{Task, Handler}
 use Rattle.layout.specs.File.{Entry, SaysNothing}
 use Rattle.layout.specs.Refusals.{Misplaces, TableIn}
-use Rattle.layout.specs.Table.{list_of, misplaced, listed}
+use Rattle.layout.specs.Table.{list_of, misplaced}
 use Rattle.layout.specs.declared.reader.Table.{Table}
 use Rattle.sheet.specs.Printed.{printed}
 use Rattle.sheet.specs.Whole.{TableFigures, FileFigures, output_of, SheetSays, OneSheet}
@@ -39,7 +39,7 @@ file-refused bs e told = go (table-refused bs e told)
 
 -- and the verdict on what is lent.
 pub file-judged : (bs : List ℕ) (t : Table) (ts hs : List ℕ) (r : Result Answer Refusal) → TableIn bs (Ok t)
-    → ts ≡ listed t.tasks → hs ≡ listed t.handlers → VerdictSays ts hs r → FileFigures bs (figures r)
+    → ts ≡ t.tasks → hs ≡ t.handlers → VerdictSays ts hs r → FileFigures bs (figures r)
 unfolding TableFigures VerdictSays
 file-judged bs t ts hs r told tasks handlers says =
     let l = table-lists bs t told in

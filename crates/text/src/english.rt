@@ -33,7 +33,7 @@ fn of_run(number: u32) -> Text
     }
 }
 
-// The line of any number.
+// The line of any number: the law asks for cases on the number here, with ranges and a last case.
 pub fn line(number: u32) -> Text
     ensures { result ≡ english number }
 {

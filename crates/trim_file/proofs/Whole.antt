@@ -16,7 +16,7 @@ use Rattle.demand.specs.Rows.{tasks_of}
 use Rattle.demand.specs.declared.table.Kind.TheVariants.{Task, Handler}
 use Rattle.layout.specs.File.{Entry, FileSays, SaysNothing, file_text}
 use Rattle.layout.specs.Refusals.{Misplaces, TableIn}
-use Rattle.layout.specs.Table.{list_of, misplaced, listed}
+use Rattle.layout.specs.Table.{list_of, misplaced}
 use Rattle.layout.specs.declared.reader.Table.{Table}
 use Rattle.layout.specs.declared.words.Columns.{Columns}
 use Rattle.layout.proofs.File.{says-unique}
@@ -163,7 +163,7 @@ module _ (bs : List ℕ) (i : ℕ) where
       go (inr n) = inr (n.0, ap Err n.1)
 
   pub file-trimmed : (t : Table) (ts hs : List ℕ) (a : Result Cut Refusal) → TableIn bs (Ok t)
-      → ts ≡ listed t.tasks → hs ≡ listed t.handlers → TrimSays ts hs i a → FileAnswers bs i a
+      → ts ≡ t.tasks → hs ≡ t.handlers → TrimSays ts hs i a → FileAnswers bs i a
   unfolding FileAnswers AnswerIn
   file-trimmed t ts hs a told tasks handlers says =
       let l = table-lists bs t told in

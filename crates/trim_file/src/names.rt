@@ -7,7 +7,7 @@ use text::spelled;
 // The first number that has more digits than a name may have; no table has such a row.
 const ROW_LIMIT: u64 = 10_000_000;
 
-// The row that a name says, or one that no table has where it is no task's name.
+// The row that a name says, or one that no table has where it is no task's name: it is refused as such a row is (`row_named`).
 pub fn row_named(name: &[u8]) -> usize
     ensures { result ≡ row_named name.now }
 {

@@ -1,13 +1,13 @@
 -- The table that the reader builds is that of the rows read whole.
 use mathlib.Core.Bool.{Bool, true, false, ◌||◌}
 use mathlib.Core.List.{List, [], ◌∷◌, ◌++◌, append-nil, append_assoc}
-use mathlib.Core.Path.{◌≡◌, refl, sym, ap, subst, ◌∙◌}
+use mathlib.Core.Path.{◌≡◌, refl, sym, ap, ◌∙◌}
 use native.Mathlib.Numerals.{add-one}
 use native.Mathlib.Omega.{arith}
-use Prim.Native.Nat.{ℕ, suc, ◌+◌, ◌-◌, ◌<◌, ◌≤◌}
+use Prim.Native.Nat.{ℕ, ◌+◌, ◌<◌, ◌≤◌}
 use borrow.Author.Tests.{lt-ltb, le-ltb}
-use lib.ListN.{length, set, take, get_or, replicate, length-append, length-take}
-use lib.Seq.{set_at, take-suc, take_all}
+use lib.ListN.{length, take, get_or, length-take}
+use lib.Seq.{take-suc, take_all}
 use Rattle.demand.specs.Tests.{pick}
 use Rattle.demand.specs.declared.table.Kind.{Kind}
 use Rattle.demand.specs.declared.table.Kind.TheVariants.{Task, Handler}
@@ -15,53 +15,24 @@ use Rattle.layout.specs.File.{file_most, rows_most, Entry}
 use Rattle.std.specs.Prelude.{Option, Some, None, Result, Ok, Err}
 use Rattle.demand.specs.declared.refusal.Refusal.{Refusal}
 use Rattle.demand.specs.declared.refusal.Refusal.TheVariants.{FileMalformed}
-use Rattle.layout.specs.Inside.Building.{Room, longer, longer_by, pushed, grown, fed, table_at_end, added, Reading, next, read_from, read_over, rows_at_end, outcome}
+use Rattle.layout.specs.Inside.Building.{Room, pushed, grown, fed, table_at_end, added, Reading, next, read_from, read_over, rows_at_end, outcome}
 use Rattle.layout.specs.Inside.Steps.{after_byte, is_start, columns_of}
-use Rattle.layout.specs.Table.{entry_numbers, list_of, misplaced_in, misplaced, flat_most, flat_of, table_of}
-use Rattle.layout.specs.declared.reader.Flat.{Flat}
+use Rattle.layout.specs.Table.{entry_numbers, list_of, misplaced_in, misplaced, table_of}
 use Rattle.layout.specs.declared.reader.Table.{Table}
 use Rattle.layout.specs.declared.steps.State.{State}
 use Rattle.layout.specs.declared.steps.State.TheVariants.{Head}
 use Rattle.layout.specs.declared.words.Columns.{Columns}
 use Rattle.text.specs.Ascii.{crlf}
-use Rattle.layout.proofs.Inside.Room.{lists-most, read-most, room}
+use Rattle.layout.proofs.Inside.Room.{read-most, room}
 use Rattle.text.proofs.Tests.{by}
 
 -- ---- one row more
-
--- A store behind a list that has room.
-longer-flat : (s : List ℕ) (x : ℕ) → length s < flat_most → longer (flat_of s) x ≡ flat_of (s ++ (x ∷ []))
-longer-flat s x h =
-    let n = length s in
-    let free : flat_most - n ≡ suc (flat_most - suc n) = omega arith in
-    let len : length (s ++ (x ∷ [])) ≡ n + 1 = length-append s (x ∷ []) in
-    let left : flat_most - suc n ≡ flat_most - length (s ++ (x ∷ [])) = omega arith in
-    let stored : set (s ++ replicate (flat_most - n) 0) n x ≡ (s ++ (x ∷ [])) ++ replicate (flat_most - length (s ++ (x ∷ []))) 0 =
-    ap (λ (k : ℕ). set (s ++ replicate k 0) n x) free
-    ∙ set_at s 0 (replicate (flat_most - suc n) 0) x n refl
-    ∙ sym (append_assoc s (x ∷ []) (replicate (flat_most - suc n) 0))
-    ∙ ap (λ (k : ℕ). (s ++ (x ∷ [])) ++ replicate k 0) left in
-    λ i. record { numbers = stored i; len = sym len i }
-
-longer-by : (s xs : List ℕ) → length s + length xs ≤ flat_most → longer_by (flat_of s) xs ≡ flat_of (s ++ xs)
-longer-by s [] h = ap flat_of (sym (append-nil s))
-longer-by s (x ∷ xs) h =
-    ap (λ (z : Flat). longer_by z xs) (longer-flat s x (omega arith))
-    ∙ longer-by (s ++ (x ∷ [])) xs (omega (arith, length-append s (x ∷ [])))
-    ∙ ap flat_of (append_assoc s (x ∷ []) xs)
 
 list-next : (kind : Kind) (es : List Entry) (e : Entry) → list_of kind (es ++ (e ∷ [])) ≡ list_of kind es ++ entry_numbers kind e
 list-next kind [] e = append-nil (entry_numbers kind e)
 list-next kind (x ∷ es) e =
     ap (λ (z : List ℕ). entry_numbers kind x ++ z) (list-next kind es e)
     ∙ sym (append_assoc (entry_numbers kind x) (list_of kind es) (entry_numbers kind e))
-
-flat-next : (kind : Kind) (es : List Entry) (e : Entry) → length (list_of kind (es ++ (e ∷ []))) ≤ flat_most →
-    longer_by (flat_of (list_of kind es)) (entry_numbers kind e) ≡ flat_of (list_of kind (es ++ (e ∷ [])))
-flat-next kind es e h =
-    let most : length (list_of kind es) + length (entry_numbers kind e) ≤ flat_most =
-    omega (arith, ap length (list-next kind es e), length-append (list_of kind es) (entry_numbers kind e)) in
-    longer-by (list_of kind es) (entry_numbers kind e) most ∙ ap flat_of (sym (list-next kind es e))
 
 either_way : (a b c : Bool) → a || (b || c) ≡ b || (a || c)
 either_way true true c = refl
@@ -73,41 +44,33 @@ misplaced-next [] e = refl
 misplaced-next (x ∷ es) e =
     ap (λ (z : Bool). misplaced_in x || z) (misplaced-next es e) ∙ either_way (misplaced_in x) (misplaced_in e) (misplaced es)
 
-pushed-next : (es : List Entry) (e : Entry) → length es < rows_most → pushed (table_of es) e ≡ table_of (es ++ (e ∷ []))
-pushed-next es e h =
-    let most = lists-most (es ++ (e ∷ [])) in
-    let one_more = length-append es (e ∷ []) in
-    let tasks = flat-next Task es e (omega (arith, most, one_more)) in
-    let handlers = flat-next Handler es e (omega (arith, most, one_more)) in
-    let deadline = misplaced-next es e in
-    λ i. record { misplaced = sym deadline i; tasks = tasks i; handlers = handlers i }
+pushed-next : (es : List Entry) (e : Entry) → pushed (table_of es) e ≡ table_of (es ++ (e ∷ []))
+pushed-next es e =
+    λ i. record {
+      misplaced = sym (misplaced-next es e) i;
+      tasks = sym (list-next Task es e) i;
+      handlers = sym (list-next Handler es e) i;
+    }
 
-grown-next : (es fs : List Entry) → length es + length fs ≤ rows_most → grown (table_of es) fs ≡ table_of (es ++ fs)
-grown-next es [] h = ap table_of (sym (append-nil es))
-grown-next es (e ∷ fs) h =
-    ap (λ (t : Table). grown t fs) (pushed-next es e (omega arith))
-    ∙ grown-next (es ++ (e ∷ [])) fs (omega (arith, length-append es (e ∷ [])))
-    ∙ ap table_of (append_assoc es (e ∷ []) fs)
+grown-next : (es fs : List Entry) → grown (table_of es) fs ≡ table_of (es ++ fs)
+grown-next es [] = ap table_of (sym (append-nil es))
+grown-next es (e ∷ fs) =
+    ap (λ (t : Table). grown t fs) (pushed-next es e) ∙ grown-next (es ++ (e ∷ [])) fs ∙ ap table_of (append_assoc es (e ∷ []) fs)
 
 -- ---- one byte more, and the end
-
-fed-next : (es : List Entry) (st : State) (b : ℕ) → length (es ++ added st b) ≤ rows_most →
-    fed (table_of es) st b ≡ table_of (es ++ added st b)
-fed-next es st b h = grown-next es (added st b) (omega (arith, length-append es (added st b)))
 
 -- What an outcome comes to as a table.
 abbrev pub table_for : Option (List Entry) → Result Table Refusal
 table_for None = Err FileMalformed
 table_for (Some es) = Ok (table_of es)
 
-table-at-end : (cols : Columns) (w : Reading) → length (read_from cols w crlf).rows ≤ rows_most →
-    table_at_end cols (table_of w.rows) w.st ≡ table_for (rows_at_end cols w)
-table-at-end cols w h =
+table-at-end : (cols : Columns) (w : Reading) → table_at_end cols (table_of w.rows) w.st ≡ table_for (rows_at_end cols w)
+table-at-end cols w =
     let cr = after_byte cols w.st 13 in
     by (λ t. pick t (Ok (fed (table_of w.rows) (after_byte cols w.st 13) 10)) (pick (is_start w.st) (Ok (table_of w.rows)) (Err FileMalformed))
     ≡ table_for (pick t (Some (read_from cols w crlf).rows) (pick (is_start w.st) (Some w.rows) None)))
     (is_start (read_from cols w crlf).st)
-    (λ e. ap Ok (fed-next w.rows cr 10 (subst (λ (z : List Entry). length (z ++ added cr 10) ≤ rows_most) (append-nil w.rows) h)
+    (λ e. ap Ok (grown-next w.rows (added cr 10)
     ∙ ap (λ (z : List Entry). table_of (z ++ added cr 10)) (sym (append-nil w.rows))))
     (λ e. by (λ t. pick t (Ok (table_of w.rows)) (Err FileMalformed) ≡ table_for (pick t (Some w.rows) None)) (is_start w.st) (λ _. refl) (λ _. refl))
 
@@ -154,17 +117,15 @@ module _ (cols : Columns) (bs : List ℕ) (small : length bs ≤ file_most) wher
       let before = read_over cols (take i bs) in
       let after : (read_over cols (take (i + 1) bs)).rows ≡ before.rows ++ added before.st (get_or bs i 0) = ap (λ (w : Reading). w.rows) (read_take cols bs i h) in
       ap (λ (s : State). fed t s (get_or bs i 0)) e ∙ ap (λ (x : Table). fed x before.st (get_or bs i 0)) f
-      ∙ fed-next before.rows before.st (get_or bs i 0) (omega (arith, ap length after, take-most (i + 1)))
+      ∙ grown-next before.rows (added before.st (get_or bs i 0))
       ∙ sym (ap table_of after)
 
   pub loop-ends : (i : ℕ) (t : Table) (st : State) → cols ≡ columns_of bs → length bs ≤ i → st ≡ (read_over cols (take i bs)).st →
       t ≡ table_of (read_over cols (take i bs)).rows → table_at_end cols t st ≡ table_for (outcome bs)
   loop-ends i t st told h e f =
-      let last : length (read_from cols (read_over cols bs) crlf).rows ≤ rows_most =
-      omega (arith, ap (λ (w : Reading). length w.rows) (read-append cols (record { st = Head 0; rows = [] }) bs crlf), read-most cols (bs ++ crlf), length-append bs crlf) in
       ap (λ (s : State). table_at_end cols t s) e ∙ ap (λ (x : Table). table_at_end cols x (read_over cols (take i bs)).st) f
       ∙ ap (λ (x : List ℕ). table_at_end cols (table_of (read_over cols x).rows) (read_over cols x).st) (take_all i bs h)
-      ∙ table-at-end cols (read_over cols bs) last
+      ∙ table-at-end cols (read_over cols bs)
       ∙ ap (λ (x : Columns). table_for (rows_at_end x (read_over x bs))) told
       ∙ sym (ap (λ (b : Bool). table_for (pick b None (rows_at_end (columns_of bs) (read_over (columns_of bs) bs)))) (le-ltb file_most (length bs) small))
 

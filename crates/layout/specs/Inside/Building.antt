@@ -1,6 +1,5 @@
 -- How the reader builds a table on its way. No public promise cites this.
 --   Room t               there is room in t for a row of either kind
---   longer rows x        == a list with one number more; longer_by with several
 --   pushed t e           == the table t with the row e more
 --   grown t es           == with the rows es more
 --   done st              == the row whose CR was read last, where st is behind one
@@ -12,7 +11,7 @@
 --   read_over cols bs     == the reading over the bytes bs
 --   rows_at_end cols w     == the rows of a file that ends at the reading w, or nothing
 --   outcome bs           == the rows of the file bs, or nothing
-use Rattle.std.specs.Prelude.{◌||◌, List, [], ◌∷◌, ◌++◌, ℕ, ◌+◌, ◌≤◌, eqb, ltb, length, set, Option, Some, None, Result, Ok, Err}
+use Rattle.std.specs.Prelude.{◌||◌, List, [], ◌∷◌, ◌++◌, ℕ, ◌+◌, ◌≤◌, eqb, ltb, length, Option, Some, None, Result, Ok, Err}
 use Rattle.demand.specs.Tests.{pick}
 use Rattle.demand.specs.declared.refusal.Refusal.{Refusal}
 use Rattle.demand.specs.declared.refusal.Refusal.TheVariants.{FileMalformed}
@@ -20,7 +19,6 @@ use Rattle.demand.specs.declared.table.Kind.TheVariants.{Task, Handler}
 use Rattle.layout.specs.File.{Entry, entry, file_most}
 use Rattle.layout.specs.Inside.Steps.{after_byte, is_start, columns_of}
 use Rattle.layout.specs.Table.{entry_numbers, misplaced_in, flat_most}
-use Rattle.layout.specs.declared.reader.Flat.{Flat}
 use Rattle.layout.specs.declared.reader.Table.{Table}
 use Rattle.layout.specs.declared.steps.State.{State}
 use Rattle.layout.specs.declared.steps.State.TheVariants.{Broken, Head, HeadCr, Start, Name, First, Digits, RowCr}
@@ -28,21 +26,14 @@ use Rattle.layout.specs.declared.words.Columns.{Columns}
 use Rattle.text.specs.Ascii.{crlf}
 
 abbrev pub Room : Table → Type 0
-Room t = t.tasks.len + t.handlers.len + 3 ≤ flat_most
-
-abbrev pub longer : Flat → ℕ → Flat
-longer rows x = record { numbers = set rows.numbers rows.len x; len = rows.len + 1 }
-
-abbrev pub longer_by : Flat → List ℕ → Flat
-longer_by rows [] = rows
-longer_by rows (x ∷ xs) = longer_by (longer rows x) xs
+Room t = length t.tasks + length t.handlers + 3 ≤ flat_most
 
 abbrev pub pushed : Table → Entry → Table
 pushed t e =
     record {
       misplaced = misplaced_in e || t.misplaced;
-      tasks = longer_by t.tasks (entry_numbers Task e);
-      handlers = longer_by t.handlers (entry_numbers Handler e);
+      tasks = t.tasks ++ entry_numbers Task e;
+      handlers = t.handlers ++ entry_numbers Handler e;
     }
 
 abbrev pub done : State → List Entry

@@ -1,5 +1,4 @@
-use mathlib.Core.Path.{refl}
-use Rattle.schedule_file.proofs.Inside.Builds.{finished-over, finished-few}
+use Rattle.schedule_file.proofs.Inside.Builds.{finished-few}
 use Rattle.schedule_file.proofs.reader.finished.Goals as goal
 
 pub returns : goal.returns

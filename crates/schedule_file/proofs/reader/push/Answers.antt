@@ -1,4 +1,4 @@
-use Rattle.schedule_file.proofs.Inside.Builds.{push-stored, push-counted}
+use Rattle.schedule_file.proofs.Inside.Builds.{push-stored}
 use Rattle.schedule_file.proofs.reader.push.Goals as goal
 
 pub returns-then-n-lt-SEGMENTS_MOST : goal.returns-then-n-lt-SEGMENTS_MOST
