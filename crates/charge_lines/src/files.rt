@@ -1,18 +1,25 @@
 // The figures of a table file.
 ghost use Rattle.std.specs.Prelude.{◌≡◌};
 ghost use Rattle.charge_lines.specs.Files.{refused_of, FileAnswers, FileCharged};
-ghost use Rattle.demand.specs.Numbered.{number_of};
 
-use charges::figures::Figures;
+use charges::figures::{Figures, Word};
 use charges::{Charged, QUANTUM_MOST, figures};
 use demand::refusal::Refusal;
 use layout::reader;
 
-// Those of a refusal.
-pub fn refused(refusal: Refusal) -> Figures
-    ensures { result ≡ refused_of (number_of refusal) }
+// Those of a refusal. By its number: `refused` promises figures for each number, those of no refusal too.
+pub fn refused(number: u32) -> Figures
+    ensures { result ≡ refused_of number }
 {
-    figures::of_answer(Err(refusal))
+    Figures {
+        exact: Word::Refused,
+        code: u64::from(number),
+        load: 0,
+        quantum: Word::None,
+        quantum_load: 0,
+        task: Word::None,
+        task_load: 0,
+    }
 }
 
 // The answer to the table that a file says. A quantum out of range is refused before the file is read.

@@ -36,7 +36,11 @@ fn main(rt: HostRuntime) {
     match spelled::number(QUANTUM_LIMIT, &digits[..k]) {
         Some(quantum @ 1..=QUANTUM_MOST) => all(&rt, quantum),
         _ => {
-            if !print(&rt, b"", files::refused(Refusal::QuantumOutOfRange)) {
+            if !print(
+                &rt,
+                b"",
+                files::refused(Refusal::QuantumOutOfRange.number()),
+            ) {
                 unwritten(&rt);
             }
             console::explain(&rt.stderr(), Refusal::QuantumOutOfRange.number());
@@ -47,7 +51,7 @@ fn main(rt: HostRuntime) {
 // The figures of the file with this name: 12 where it cannot be opened or read to its end.
 fn of_name(rt: &HostRuntime, name: &[u8], quantum: u64) -> Figures {
     match console::open(rt, name) {
-        None => files::refused(Refusal::FileMalformed),
+        None => files::refused(Refusal::FileMalformed.number()),
         Some(file) => of_open(file, quantum),
     }
 }
@@ -57,7 +61,7 @@ fn of_open(mut file: File, quantum: u64) -> Figures {
     let mut input = [0u8; READ_MOST];
     match console::read_whole(&mut file, &mut input) {
         Some(n) => files::of_file(&input[..n], quantum),
-        None => files::refused(Refusal::FileMalformed),
+        None => files::refused(Refusal::FileMalformed.number()),
     }
 }
 

@@ -38,7 +38,10 @@ pub fn with_input<F: FnOnce(&[u8])>(rt: &HostRuntime, program: &[u8], room: &mut
         Some(n) => then(&room[..n]),
         None => {
             say(&rt.stderr(), program);
-            say(&rt.stderr(), b": standard input could not be read to its end\n");
+            say(
+                &rt.stderr(),
+                b": standard input could not be read to its end\n",
+            );
         }
     }
 }

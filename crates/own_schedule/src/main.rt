@@ -4,7 +4,6 @@
 // so over before the span, where there are too many segments to print, and where something could not be read or written whole.
 #![tactic(auto)]
 
-use demand::table::Kind;
 use layout::reader;
 use layout::reader::{FILE_MOST, Table};
 use own_segments::Answer;
@@ -67,12 +66,7 @@ fn of_table(rt: &HostRuntime, table: &Table, span: u64) {
 fn print_all(rt: &HostRuntime, out: &[u64], count: usize) {
     let mut well = console::say(&rt.stdout(), b"row,from,to\r\n");
     for segment in out.chunks_exact(SEGMENT_WIDTH).take(count) {
-        let kind = if segment[0] == 0 {
-            Kind::Task
-        } else {
-            Kind::Handler
-        };
-        let line = own_sheet::line(kind, segment[1], segment[2], segment[3]);
+        let line = own_sheet::line(segment[0], segment[1], segment[2], segment[3]);
         well &= console::print(&rt.stdout(), line);
     }
     if !well {

@@ -3,28 +3,21 @@
 
 ghost use Rattle.std.specs.Prelude.{◌≡◌};
 ghost use Rattle.own_sheet.specs.Lines.{letter_by, segment_line};
-ghost use Rattle.schedule_file.specs.Schedule.{kind_number};
 
-use demand::table::Kind;
 use text::Text;
 
-// The letter of a kind.
-fn letter(kind: Kind) -> u8
-    ensures { result ≡ letter_by (kind_number kind) }
+// The letter of a kind: `T` for 0, a task, else `H`.
+fn letter(kind: u64) -> u8
+    ensures { result ≡ letter_by kind }
 {
-    match kind {
-        Kind::Task => b'T',
-        Kind::Handler => b'H',
-    }
+    if kind == 0 { b'T' } else { b'H' }
 }
 
-// The line of a segment, with its CRLF.
-pub fn line(kind: Kind, row: u64, from: u64, to: u64) -> Text
-    ensures { result ≡ segment_line (kind_number kind) row from to }
+// The line of a segment, with its CRLF. The kind is the number that stands in the list: `line` promises a line for each number, so that
+// no type of two kinds takes its place.
+pub fn line(kind: u64, row: u64, from: u64, to: u64) -> Text
+    ensures { result ≡ segment_line kind row from to }
 {
     let first = text::put(text::blank(), letter(kind));
-    text::puts(
-        text::fields(text::number(first, row), &[from, to]),
-        b"\r\n",
-    )
+    text::puts(text::fields(text::number(first, row), &[from, to]), b"\r\n")
 }
