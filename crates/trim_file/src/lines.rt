@@ -1,5 +1,5 @@
 // The printed lines of a trim.
-ghost use Rattle.std.specs.Prelude.{◌≡◌, ◌++◌};
+ghost use Rattle.std.specs.Prelude.{[], ◌≡◌, ◌++◌};
 ghost use Rattle.text.specs.Numbers.{decimal, fields_of};
 ghost use Rattle.text.specs.Text.{puts_of};
 ghost use Rattle.trim_file.specs.Printed.{heading, cost_lines, none_lines};
