@@ -22,9 +22,9 @@ laid-front page bs long few = ap (take (length bs)) (sets-eq bs page 0 (omega ar
 pub only-laid : (start page : List ℕ) (r : ℕ) (bs bytes : List ℕ) → length start ≡ page_most → length bs ≤ page_most → bytes ≡ bs
     → (r ≡ end_of (length start) 0 (length bytes)) × (page ≡ over.laid start 0 bytes) → (page ≡ laid start 0 bs) × (r ≡ length bs)
 only-laid start page r bs bytes long few said (er, ep) = (
-      ep ∙ ap (over.laid start 0) said ∙ laid-sets start bs 0 (omega (arith, long)),
-      er ∙ ap (λ (xs : List ℕ). end_of (length start) 0 (length xs)) said ∙ end-room start bs 0 (omega (arith, long)) ∙ zero-add (length bs),
-    )
+  ep ∙ ap (over.laid start 0) said ∙ laid-sets start bs 0 (omega (arith, long)),
+  er ∙ ap (λ (xs : List ℕ). end_of (length start) 0 (length xs)) said ∙ end-room start bs 0 (omega (arith, long)) ∙ zero-add (length bs),
+)
 
 -- ---- the lines of guards
 
