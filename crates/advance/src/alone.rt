@@ -39,6 +39,7 @@ fn first_due(run: &Run) -> u64
 }
 
 // How many of the ticks that are left go to the same one; none where the run is over.
+// The flag is the run's own; both ways are a number of ticks.
 fn lasts(over: bool, clock: u64, left: u64, work: u64, first: u64) -> u64
     ensures { result ≡ lasts over clock left work first }
 {

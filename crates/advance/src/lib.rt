@@ -71,6 +71,7 @@ pub fn advance(run: Run, ticks: u64) -> Advanced
     let mut at = run;
     let mut left = ticks;
     let mut refusal = None;
+    // No `for`: a piece is as long as it is.
     while (0 < left) & refusal.is_none() {
         let next = next_piece(at, left);
         at = next.run;

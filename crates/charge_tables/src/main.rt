@@ -89,6 +89,7 @@ fn explain(rt: &HostRuntime, line: u64, number: u64) {
     console::say(&rt.stderr(), b"line ");
     console::say_number(&rt.stderr(), line);
     console::say(&rt.stderr(), b": ");
+    // A refusal's number, which is small: figures have it as a u64 since C reads them.
     console::explain(&rt.stderr(), number as u32);
 }
 

@@ -6,6 +6,7 @@ use crate::{Charge, Charged};
 use demand::refusal::Refusal;
 use verdict::Answer;
 
+// The words of a line; `none` is one of them, so this is no Option.
 #[derive(Clone, Copy)]
 pub enum Word {
     Fits,

@@ -27,6 +27,7 @@ pub fn bounds(handlers: &[u32], l: u64) -> u64
         return 0;
     }
     let handler = table::head(Kind::Handler, handlers);
+    // By the rest of the list, as it is defined: a fold would be stated through its closure.
     let rest = bounds(&handlers[own..], l);
     bound(handler, l) + rest
 }

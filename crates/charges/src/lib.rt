@@ -54,6 +54,7 @@ fn some_shorter(tasks: &[u32]) -> bool
         return false;
     }
     let task = table::head(Kind::Task, tasks);
+    // By the rest of the list, as it is defined: a fold would be stated through its closure.
     let rest = some_shorter(&tasks[own..]);
     (task.deadline != task.period) | rest
 }

@@ -68,6 +68,7 @@ fn summed(way: Way, tasks: &[u32], handlers: &[u32], h: u64) -> Sums
         };
     }
     let task = table::head(Kind::Task, tasks);
+    // By the rest of the list, as it is defined: a fold would be stated through its closure.
     let later = summed(way, &tasks[own..], handlers, h);
     let cost = grown(way, task, handlers);
     Sums {

@@ -22,5 +22,6 @@ pub fn of_rows(kind: Kind, s: &[u32], a: u64) -> Option<u64>
     if TICKS_MOST < m {
         return None;
     }
+    // By the rest of the list, as it is defined: a fold would be stated through its closure.
     of_rows(kind, &s[own..], m)
 }

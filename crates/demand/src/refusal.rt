@@ -68,6 +68,7 @@ fn some_outside(kind: Kind, s: &[u32]) -> bool
         return false;
     }
     let row = table::head(kind, s);
+    // By the rest of the list, as it is defined: a fold would be stated through its closure.
     let rest = some_outside(kind, &s[own..]);
     table::outside(row.cost) | table::outside(row.period) | rest
 }
@@ -81,6 +82,7 @@ fn some_deadline_outside(tasks: &[u32]) -> bool
         return false;
     }
     let task = table::head(Kind::Task, tasks);
+    // By the rest of the list, as it is defined: a fold would be stated through its closure.
     let rest = some_deadline_outside(&tasks[own..]);
     (task.deadline == 0) | (task.period < task.deadline) | rest
 }

@@ -29,6 +29,7 @@ pub fn due(tasks: &[u32], l: u64) -> u64
         return 0;
     }
     let task = head(Kind::Task, tasks);
+    // By the rest of the list, as it is defined: a fold would be stated through its closure.
     let rest = due(&tasks[own..], l);
     task.cost * jobs(l, task.deadline, task.period) + rest
 }
@@ -43,6 +44,7 @@ pub fn called(kind: Kind, s: &[u32], l: u64) -> u64
         return 0;
     }
     let row = head(kind, s);
+    // By the rest of the list, as it is defined: a fold would be stated through its closure.
     let rest = called(kind, &s[own..], l);
     row.cost * l.div_ceil(row.period) + rest
 }

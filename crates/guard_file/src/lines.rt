@@ -25,6 +25,7 @@ fn guard_lines(interrupt: u64, timer: u64, period: u64) -> Text
 fn refused(refusal: Refusal, place: usize) -> Text
     ensures { result ≡ refused_text (number_of refusal) place }
 {
+    // u64 has no From of usize.
     let numbers = [u64::from(refusal.number()), place as u64];
     text::puts(
         text::fields(text::of(b"guards,code,guard\r\nrefused"), &numbers),

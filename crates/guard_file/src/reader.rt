@@ -24,6 +24,7 @@ pub struct Refused {
 }
 
 // What a file says: how many guards, 9 for more than 8; the rows of the first of them; and the first refusal among these.
+// Fixed memory; the count goes on past the rows that are kept, so it is no length of them.
 #[derive(Clone, Copy)]
 pub struct Sheet {
     pub count: usize,
@@ -45,6 +46,7 @@ fn bare() -> Sheet
 fn capped(v: u64) -> u32
     ensures { result ≡ min v number_most }
 {
+    // Capped, so that a conversion that can fail would have nothing to tell.
     v.min(u64::from(u32::MAX)) as u32
 }
 

@@ -23,6 +23,7 @@ pub fn late_of(number: u64) -> Option<usize>
     if number == 0 {
         None
     } else {
+        // usize has no From of u64; C hands over a u64.
         Some((number - 1) as usize)
     }
 }
@@ -34,6 +35,7 @@ pub fn late_number(late: Option<usize>) -> u64
 {
     match late {
         None => 0,
+        // u64 has no From of usize.
         Some(row) => row as u64 + 1,
     }
 }
@@ -65,6 +67,7 @@ pub fn row_number(ran: Ran) -> u64
     ensures { result ≡ row_ran ran }
 {
     match ran {
+        // As above: a usize in a u64.
         Ran::Handler { row } | Ran::Task { row } => row as u64,
         Ran::Idle => 0,
     }
@@ -104,6 +107,7 @@ pub fn run_in(
     Run {
         tasks: *t,
         handlers: *h,
+        // usize has no From of u64; a count that is too large is refused by 6 all the same.
         task_count: figures[0] as usize,
         handler_count: figures[1] as usize,
         clock: figures[2],
@@ -138,6 +142,7 @@ pub fn run_figures(run: &Run, code: u64, ran: Ran, late: Option<usize>) -> [u64;
     ensures { result ≡ layout run.now code ran late }
 {
     [
+        // As above: a usize in a u64.
         run.task_count as u64,
         run.handler_count as u64,
         run.clock,

@@ -11,6 +11,7 @@ use text::digits;
 const NUMBER_LIMIT: u64 = 10_000_000;
 
 // What stands behind a row's period.
+// Three cases, since a header of three columns and one of four go different ways: no Option.
 #[derive(Clone, Copy)]
 pub enum Last {
     // Nothing: there are three columns.
@@ -187,6 +188,7 @@ fn in_digits(columns: Columns, place: Place, v: u32, b: u8) -> State
     if b == behind(columns, place) {
         after(columns, place, v)
     } else if digits::continues(NUMBER_LIMIT, so_far, b) {
+        // Below 10^7, so that a conversion that can fail would have nothing to tell.
         State::Digits(place, digits::extended(NUMBER_LIMIT, so_far, b) as u32)
     } else {
         State::Broken

@@ -30,6 +30,7 @@ fn segments(out: Stdout, count: usize, list: &[u64]) {
 fn told(out: Stdout, answer: Result<Answer, Refusal>, list: &[u64]) {
     match answer {
         Ok(Answer::Segments { count, end }) => {
+            // u64 has no From of usize.
             number(out, count as u64);
             say(out, b" segments to clock ");
             number(out, end);
@@ -56,6 +57,7 @@ fn advanced(out: Stdout, a: Advanced) -> Run {
     number(out, a.refusal.map_or(0, |r| u64::from(r.number())));
     if let Some(row) = a.run.late {
         say(out, b", task ");
+        // u64 has no From of usize.
         number(out, row as u64);
         say(out, b" late");
     }

@@ -31,6 +31,7 @@ fn beat(row: Row, tick: u64) -> u32
     ensures { result ≡ beat tick (row_of row) }
 {
     if tick % row.period == 0 {
+        // A cost of a table, so below 2^32.
         row.cost as u32
     } else {
         0

@@ -53,6 +53,7 @@ pub fn of_table(
 }
 
 // The segments of a run from fresh, as far as there is room.
+// Each parameter stands for itself: it is called once, and all but the list are copied.
 fn draw(tasks: &[u32], handlers: &[u32], run: Run, span: u64, room: usize, out: &mut [u64]) -> Drawn
     requires { Started tasks.now handlers.now run span room out.old }
     ensures { DrawnTo tasks.now handlers.now span room out.old out.new result }
@@ -64,6 +65,7 @@ fn draw(tasks: &[u32], handlers: &[u32], run: Run, span: u64, room: usize, out: 
         from: 0,
         count: 0,
     };
+    // No `for`: a turn is as long as it is.
     while (clock < span) & !at.over & (pen.count <= room) {
         let next = turn::turn(tasks, handlers, at, clock, span);
         pen = pen::moved(pen, next.ran, clock, room, out);

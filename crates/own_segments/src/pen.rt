@@ -33,6 +33,7 @@ pub fn clear(out: &mut [u64])
 }
 
 // One segment more behind so many; nothing where there is no room.
+// The four numbers of a segment, as the list has them, and where they go.
 fn put(out: &mut [u64], count: usize, kind: u64, row: u64, from: u64, to: u64, room: usize)
     requires { room ≤ room_in (length out.old) }
     ensures { out.new ≡ put_in out.old count kind row from to room }
@@ -53,6 +54,7 @@ pub fn closed(pen: Pen, tick: u64, room: usize, out: &mut [u64]) -> usize
 {
     match pen.ran {
         Ran::Handler { row } => {
+            // 1 is the number of a handler in a lent list, 0 that of a task; u64 has no From of usize.
             put(out, pen.count, 1, row as u64, pen.from, tick, room);
             pen.count + 1
         }

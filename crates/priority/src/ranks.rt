@@ -40,6 +40,7 @@ pub fn work(kind: Kind, s: &[u32], end: u64, j: u64, l: u64) -> u64
         return 0;
     }
     let row = head(kind, s);
+    // By the rest of the list, as it is defined: a fold would be stated through its closure.
     let rest = work(kind, &s[own..], end, j + 1, l);
     work_by(end, j, l, row) + rest
 }
@@ -63,6 +64,7 @@ pub fn next(tasks: &[u32], from: u64, j: u64) -> u64
         return PAST_RANKS;
     }
     let row = head(Kind::Task, tasks);
+    // By the rest of the list, as it is defined: a fold would be stated through its closure.
     let rest = next(&tasks[own..], from, j + 1);
     lesser_from(from, rank(j, row), rest)
 }

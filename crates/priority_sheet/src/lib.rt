@@ -22,6 +22,7 @@ pub struct Output {
 }
 
 // The responses of so many tasks, zeros behind.
+// Fixed memory, and the promises of a page name the zeros behind: an array and its count.
 #[derive(Clone, Copy)]
 pub struct Responses {
     pub least: [u64; TASKS_MOST],

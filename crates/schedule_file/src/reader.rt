@@ -17,6 +17,7 @@ const SEGMENTS_MOST: usize = 2048;
 pub const NUMBERS: usize = 4 * SEGMENTS_MOST;
 
 // What a file says, as segments: four numbers each, zeros behind, and how many numbers there are.
+// Fixed memory, and `schedule_of` says the zeros behind.
 #[derive(Clone, Copy)]
 pub struct Schedule {
     pub len: usize,
@@ -49,6 +50,7 @@ fn kind_number(kind: Kind) -> u64
 }
 
 // One segment more behind n of them, while there is room; past that they are only counted, as one too many. The answer is their count.
+// The four parts of a row, as `entry` takes them, and where they go.
 fn push(numbers: &mut [u64; NUMBERS], n: usize, kind: Kind, row: u64, from: u64, to: u64) -> usize
     ensures { Grows n numbers.old (entry kind row from to ∷ []) result numbers.new }
 {

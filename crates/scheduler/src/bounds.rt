@@ -19,6 +19,7 @@ fn miscounts(n: usize, m: usize) -> bool
 }
 
 // The earliest deadline that has not passed: the clock where the run is over, else the tick behind it.
+// The flag is the run's own: a tick either way.
 fn earliest_due(over: bool, clock: u64) -> u64
     requires { clock ≤ ticks_most }
     ensures { result ≡ earliest_due over clock }
@@ -27,6 +28,7 @@ fn earliest_due(over: bool, clock: u64) -> u64
 }
 
 // Does a clause speak against a task of this row, next arrival, deadline and work owed? Its figures first, so that no sum is too large.
+// What a run has of one task, read from five lists: no struct of it is kept.
 fn task_out(row: Row, next: u64, due: u64, owed: u64, clock: u64, first: u64) -> bool
     requires { clock ≤ ticks_most }
     ensures { result ≡ task_out clock first (row_of row) next due owed }

@@ -10,6 +10,7 @@ fn print_ran(out: Stdout, ran: Ran) {
     match ran {
         Ran::Handler { row } => {
             say(out, b"H");
+            // u64 has no From of usize.
             console::say_number(&out, row as u64);
         }
         Ran::Task { row } => {

@@ -99,6 +99,7 @@ fn digit(n: u64) -> u8
     requires { n < 10 }
     ensures { result ≡ 48 + n }
 {
+    // Below 10, so that a conversion that can fail would have nothing to tell.
     b'0' + n as u8
 }
 

@@ -49,6 +49,7 @@ pub fn trim(tasks: &[u32], handlers: &[u32], row: usize) -> Result<Cut, Refusal>
 }
 
 // The same of a readable table, of which it is known whether it fits.
+// The flag is what the verdict said: asked once, and not again for the greatest cost.
 fn of_readable(tasks: &[u32], handlers: &[u32], row: usize, fits: bool) -> Result<Cut, Refusal>
     requires { Judged tasks.now handlers.now fits }
     ensures { TrimSays tasks.now handlers.now row result }

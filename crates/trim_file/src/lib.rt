@@ -50,6 +50,7 @@ fn page_of(input: &[u8], row: usize, answer: Result<Cut, Refusal>) -> Output
     match answer {
         Ok(cut) => match cut.new {
             Some(new) => write::with_file(input, row, cut.old, new),
+            // u64 has no From of usize.
             None => write::lines_alone(lines::of_none(row as u64, u64::from(cut.old)), None),
         },
         Err(refusal) => write::lines_alone(

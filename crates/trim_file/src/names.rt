@@ -12,6 +12,7 @@ pub fn row_named(name: &[u8]) -> usize
     ensures { result ≡ row_named name.now }
 {
     match name.strip_prefix(b"T") {
+        // usize has no From of u64; what is no number is the limit, so that 18 refuses it as such a row.
         Some(digits) => spelled::number(ROW_LIMIT, digits).unwrap_or(ROW_LIMIT) as usize,
         None => ROW_LIMIT as usize,
     }

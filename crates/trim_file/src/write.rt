@@ -72,6 +72,7 @@ pub fn with_file(input: &[u8], row: usize, old: u32, new: u32) -> Output
     let at = recost::cost_from(input, row);
     let was = text::number(text::blank(), u64::from(old));
     let behind = at + was.as_bytes().len();
+    // u64 has no From of usize.
     let told = lines::of_cost(row as u64, 0, u64::from(old), u64::from(new));
     let lines = add(bare(), told.as_bytes());
     let printed = lines.len;

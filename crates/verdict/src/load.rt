@@ -18,6 +18,7 @@ pub fn work(kind: Kind, s: &[u32], h: u64) -> u64
         return 0;
     }
     let row = table::head(kind, s);
+    // By the rest of the list, as it is defined: a fold would be stated through its closure.
     let rest = work(kind, &s[own..], h);
     row.cost * (h / row.period) + rest
 }
@@ -32,6 +33,7 @@ pub fn costs(handlers: &[u32]) -> u64
         return 0;
     }
     let handler = table::head(Kind::Handler, handlers);
+    // By the rest of the list, as it is defined: a fold would be stated through its closure.
     let rest = costs(&handlers[own..]);
     handler.cost + rest
 }
@@ -46,6 +48,7 @@ pub fn slack(tasks: &[u32], h: u64) -> u64
         return 0;
     }
     let task = table::head(Kind::Task, tasks);
+    // By the rest of the list, as it is defined: a fold would be stated through its closure.
     let rest = slack(&tasks[own..], h);
     task.cost * (h / task.period) * (task.period - task.deadline) + rest
 }

@@ -15,6 +15,7 @@ use demand::{arrivals, events};
 use walk::Entry;
 
 // The shortest interval that fails, or that there is none, with how many lengths were tested.
+// Both are findings with figures of their own, so neither is an error, and this is no Result.
 #[derive(Clone, Copy)]
 pub enum Found {
     At { miss: Miss },
