@@ -10,7 +10,7 @@ use demand::table;
 use demand::table::{HANDLER_NUMBERS, Kind, TASK_NUMBERS};
 
 // A table in row order.
-#[derive(Drop)]
+#[derive(Clone, Copy)]
 pub struct Table {
     pub tasks: Flat<TASK_NUMBERS>,
     pub handlers: Flat<TASK_NUMBERS>,

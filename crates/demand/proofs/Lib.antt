@@ -11,4 +11,5 @@ pub mod Refusals
 pub mod Numbered
 pub mod Signs
 pub mod Answers
+pub mod Padded
 pub mod Inside

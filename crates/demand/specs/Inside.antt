@@ -5,3 +5,5 @@ pub mod Sizes
 pub mod Events
 -- f along the arrivals of handlers
 pub mod Arrivals
+-- a list in fixed memory
+pub mod Padded

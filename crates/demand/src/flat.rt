@@ -1,24 +1,34 @@
 // Lists of numbers in fixed memory: no heap is asked for room.
-ghost use Rattle.std.specs.Prelude.{◌∷◌, [], ◌++◌, ◌≡◌, ◌<◌, length};
+ghost use Rattle.std.specs.Prelude.{◌∷◌, [], ◌++◌, ◌≡◌, length, ltb};
+ghost use Rattle.demand.specs.Tests.{pick};
 
 use std::marker::Model;
 
 // A list of at most N numbers.
-#[derive(Drop)]
+#[derive(Clone, Copy)]
 pub struct Flat<const N: usize> {
     numbers: [u32; N],
     len: usize,
 }
 
-// Clauses see the numbers of the list.
+// Clauses see the numbers of the list. Behind them stand zeros, so that the numbers tell the whole of it, and it can be copied.
 impl<const N: usize> Model for Flat<N> {
-    ghost use Rattle.std.specs.Prelude.{List, ℕ, ◌≤◌, take};
+    ghost use Rattle.std.specs.Prelude.{List, ℕ, length, take};
+    ghost use Rattle.std.proofs.Common.{arith, length-take-le};
+    ghost use Rattle.demand.specs.Inside.Padded.{padded, IsPadded, padded-back};
 
     ghost Value = { List ℕ };
 
     ghost view = { λ flat. take flat.len flat.numbers };
 
-    ghost invariant = { λ flat. flat.len ≤ N };
+    ghost invariant = { λ flat. IsPadded N flat.len flat.numbers };
+
+    ghost inverse = { λ xs. record { numbers = padded N xs; len = length xs } };
+
+    ghost inverse_ok = { λ flat h i. record {
+      numbers = padded-back N flat.len flat.numbers h i;
+      len = length-take-le flat.len flat.numbers (omega (arith, h.0, h.1)) i;
+    } };
 }
 
 impl<const N: usize> Flat<N> {
@@ -32,13 +42,14 @@ impl<const N: usize> Flat<N> {
         }
     }
 
-    // One number more, behind the others.
+    // One number more, behind the others, where there is room.
     pub fn push(&mut self, number: u32)
-        requires { length self.old < N }
-        ensures { self.new ≡ self.old ++ number ∷ [] }
+        ensures { self.new ≡ pick (ltb (length self.old) N) (self.old ++ number ∷ []) self.old }
     {
-        self.numbers[self.len] = number;
-        self.len += 1;
+        if self.len < N {
+            self.numbers[self.len] = number;
+            self.len += 1;
+        }
     }
 
     // The numbers, where they stand.

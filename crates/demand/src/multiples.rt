@@ -14,14 +14,16 @@ pub fn of_rows(kind: Kind, s: &[u32], a: u64) -> Option<u64>
     ensures { result ≡ limited (lcm_from a (rows_of kind s.now)) }
 {
     let own = table::width(kind);
-    if s.len() < own {
-        return Some(a);
+    let mut m = a;
+    let mut rest = s;
+    // The rest of the list, as its rows are defined by the head and what is behind it.
+    while own <= rest.len() {
+        let row = table::head(kind, rest);
+        m = m / euclid::gcd(m, row.period) * row.period;
+        if TICKS_MOST < m {
+            return None;
+        }
+        rest = &rest[own..];
     }
-    let row = table::head(kind, s);
-    let m = a / euclid::gcd(a, row.period) * row.period;
-    if TICKS_MOST < m {
-        return None;
-    }
-    // By the rest of the list, as it is defined: a fold would be stated through its closure.
-    of_rows(kind, &s[own..], m)
+    Some(m)
 }

@@ -1,6 +1,5 @@
 // A table as it is lent: two flat lists of numbers, and their limits. The only place in the code that knows how many numbers a row has.
-ghost use Rattle.std.specs.Prelude.{◌∷◌, ◌≡◌, ◌<◌, ◌≤◌, length};
-ghost use Rattle.demand.specs.Limits.{tasks_most};
+ghost use Rattle.std.specs.Prelude.{◌∷◌, ◌≡◌, ◌≤◌, length};
 ghost use Rattle.demand.specs.Refusals.{outside};
 ghost use Rattle.demand.specs.Rows.{rows_of, width, row_of, row_at, rest};
 
@@ -64,13 +63,19 @@ pub fn head(kind: Kind, s: &[u32]) -> Row
     }
 }
 
-// The row at place i of a list.
+// The row at place i of a list, of zeros where there is none.
 pub fn row_at(kind: Kind, s: &[u32], i: usize) -> Row
-    requires { (i < tasks_most) × (i < length (rows_of kind s.now)) }
     ensures { row_of result ≡ row_at (rows_of kind s.now) i }
 {
-    let at = width(kind) * i;
-    head(kind, &s[at..])
+    if i < count(kind, s) {
+        head(kind, &s[width(kind) * i..])
+    } else {
+        Row {
+            cost: 0,
+            period: 0,
+            deadline: 0,
+        }
+    }
 }
 
 // Is a figure 0 or above its limit?

@@ -15,22 +15,31 @@ use std::marker::Model;
 pub const TEXT_MOST: usize = 224;
 
 // A text: bytes one behind the other.
-#[derive(Drop)]
+#[derive(Clone, Copy)]
 pub struct Text {
     bytes: [u8; TEXT_MOST],
     len: usize,
 }
 
-// Clauses see its bytes.
+// Clauses see its bytes. Behind them stand zeros, so that the bytes tell the whole of it, and it can be copied.
 impl Model for Text {
-    ghost use Rattle.std.specs.Prelude.{List, ℕ, ◌≤◌, take};
+    ghost use Rattle.std.specs.Prelude.{List, ℕ, length, take};
+    ghost use Rattle.std.proofs.Common.{arith, length-take-le};
+    ghost use Rattle.demand.specs.Inside.Padded.{padded, IsPadded, padded-back};
     ghost use Rattle.text.specs.Text.{text_most};
 
     ghost Value = { List ℕ };
 
     ghost view = { λ text. take text.len text.bytes };
 
-    ghost invariant = { λ text. text.len ≤ text_most };
+    ghost invariant = { λ text. IsPadded text_most text.len text.bytes };
+
+    ghost inverse = { λ xs. record { bytes = padded text_most xs; len = length xs } };
+
+    ghost inverse_ok = { λ text h i. record {
+      bytes = padded-back text_most text.len text.bytes h i;
+      len = length-take-le text.len text.bytes (omega (arith, h.0, h.1)) i;
+    } };
 }
 
 impl Text {

@@ -3,6 +3,7 @@ use native.Mathlib.Omega.{arith}
 use Prim.Native.Nat.{ℕ}
 use lib.ListN.{length, get_or}
 use Rattle.demand.proofs.Inside.Slices.{width-least}
+use Rattle.demand.proofs.Padded.{room-push}
 use Rattle.columns.proofs.Filled.{shape, listed-turn, listed-end}
 use Rattle.columns.proofs.Tabled.{tabled-length}
 use Rattle.columns.specs.Order.{tabled_from, tabled}
@@ -30,15 +31,12 @@ bounds-numbers-place c =
     let is = shape c.args.kind c.args.numbers.now c.width-w.result c.requires c.width-w.ensures in
     omega (arith, c.place.ensures.1, is.numbers)
 
-pub push-requires : goal.push-requires
-push-requires c =
-    let is = shape c.args.kind c.args.numbers.now c.width-w.result c.requires c.width-w.ensures in
-    let long = ap length c.loop-i.invariant ∙ tabled-length _ 0 c.loop-i.i in
-    omega (arith, is.most, long)
-
 pub loop-i-preserved : goal.loop-i-preserved
 loop-i-preserved c =
-    rw c.push.ensures (listed-turn _ c.loop-i.i _ c.loop-i.out (ap (λ (k : ℕ). get_or c.args.numbers.now k 0) c.place.ensures.0) c.loop-i.invariant)
+    let is = shape c.args.kind c.args.numbers.now c.width-w.result c.requires c.width-w.ensures in
+    let long = ap length c.loop-i.invariant ∙ tabled-length _ 0 c.loop-i.i in
+    let put = c.push.ensures ∙ room-push _ c.loop-i.out _ (omega (arith, is.most, long)) in
+    rw put (listed-turn _ c.loop-i.i _ c.loop-i.out (ap (λ (k : ℕ). get_or c.args.numbers.now k 0) c.place.ensures.0) c.loop-i.invariant)
 
 pub returns : goal.returns
 returns c =

@@ -3,14 +3,12 @@
 --   earliest_due over clock    == the earliest deadline that has not passed
 --   task_out, handler_out       == a clause is met by a row with this next arrival, deadline and work owed
 --   task_out_at .. k            == by task k; handler_out_at .. i by handler i
---   used_past ..               == a place past the last row of these lists isn't 0
 --   late_out over late first   == the late row is not that of the first late task, or is named where the run is not over
-use Rattle.std.specs.Prelude.{Bool, not, ◌&&◌, ◌||◌, List, Option, ℕ, ◌+◌, ◌*◌, ltb, get_or, drop}
+use Rattle.std.specs.Prelude.{Bool, not, ◌&&◌, ◌||◌, List, Option, ℕ, ◌+◌, ◌*◌, ltb, get_or}
 use Rattle.demand.specs.Refusals.{row_outside, deadline_outside}
 use Rattle.demand.specs.Rows.{Row, tasks_of, handlers_of, row_at}
 use Rattle.demand.specs.Tests.{pick}
 use Rattle.scheduler.specs.Bounds.{names}
-use Rattle.scheduler.specs.Scans.{used}
 use Rattle.scheduler.specs.Tick.{is_task}
 
 abbrev pub earliest_due : Bool → ℕ → ℕ
@@ -39,14 +37,6 @@ task_out_at clock first t next due owed k = task_out clock first (row_at (tasks_
 -- Handler i of the table's numbers h, behind n tasks.
 abbrev pub handler_out_at : ℕ → List ℕ → List ℕ → List ℕ → ℕ → ℕ → Bool
 handler_out_at clock h next owed n i = handler_out clock (row_at (handlers_of h) i) (get_or next (n + i) 0) (get_or owed (n + i) 0)
-
-abbrev pub used_past : List ℕ → List ℕ → List ℕ → List ℕ → List ℕ → ℕ → ℕ → Bool
-used_past t h next due owed n m =
-    used (drop (3 * n) t)
-    || used (drop (2 * m) h)
-    || used (drop (n + m) next)
-    || used (drop n due)
-    || used (drop (n + m) owed)
 
 abbrev pub late_out : Bool → Option ℕ → Option ℕ → Bool
 late_out over late first = (over && not (names late first)) || (not over && is_task late)

@@ -2,17 +2,8 @@ use mathlib.Core.Path.{ap, ◌∙◌}
 use native.Mathlib.Omega.{arith}
 use Prim.Native.Nat.{ℕ, ◌-◌}
 use Rattle.demand.specs.Rows.{row_at, handlers_of}
-use Rattle.own_segments.proofs.Rhythms.{rows-length, row-front, row_back, task-placed, handler-placed}
+use Rattle.own_segments.proofs.Rhythms.{row-front, row_back}
 use Rattle.own_segments.proofs.arrivals.row_at.Goals as goal
-
-pub row_at-requires : goal.row_at-requires
-row_at-requires c =
-    task-placed _ _ c.requires.0 _ (omega (arith, c.requires.1))
-
-pub row_at-requires-else-k-n : goal.row_at-requires-else-k-n
-row_at-requires-else-k-n c =
-    handler-placed _ _ c.requires.0 _
-    (omega (arith, c.requires.1, c.requires.2, rows-length c.args.tasks.now c.args.handlers.now))
 
 pub returns-then-k-n : goal.returns-then-k-n
 returns-then-k-n c =

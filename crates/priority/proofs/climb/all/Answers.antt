@@ -30,9 +30,6 @@ deadline-most ts hs k g h =
     let sound : Sound (row_at ts k) = each_at Sound ts g.deadlines k h in
     omega (arith, fair.period.most, sound.fits)
 
-pub row_at-deadline-requires : goal.row_at-deadline-requires
-row_at-deadline-requires c = let at = c.loop-rank.invariant.1 (omega arith) in (omega arith, at.row)
-
 pub up-l-requires : goal.up-l-requires
 up-l-requires c =
     let loop = c.loop-rank in

@@ -11,10 +11,6 @@ loop-j-init c =
     let x = c.args in
     lates-start x.far x.a (given_at x.given.now) x.runner (tasks_of x.tasks.now)
 
-pub row_at-row-requires : goal.row_at-row-requires
-row_at-row-requires c =
-    (omega (arith, c.requires.few, c.count-count.ensures), omega (arith, c.count-count.ensures))
-
 pub offset_bounds-given-j : goal.offset_bounds-given-j
 offset_bounds-given-j c =
     omega (arith, c.requires.few, c.count-count.ensures)

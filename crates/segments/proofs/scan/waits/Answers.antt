@@ -12,10 +12,6 @@ loop-j-init c =
     let x = c.args in
     waits_start x.far x.a (handler_given x.given.now) (handlers_of x.handlers.now)
 
-pub row_at-row-requires : goal.row_at-row-requires
-row_at-row-requires c =
-    (omega (arith, c.requires.few, c.count-count.ensures), omega (arith, c.count-count.ensures))
-
 pub wait-requires : goal.wait-requires
 wait-requires c =
     let j = c.loop-j.j in

@@ -1,14 +1,9 @@
-use native.Mathlib.Omega.{arith}
 use Rattle.demand.specs.Limits.{tasks_most}
 use Rattle.demand.specs.Rows.{tasks_of, handlers_of}
 use Prim.Native.Nat.{◌-◌}
 use Rattle.segments.proofs.Looks.Scans.{fair-at}
 use Rattle.segments.proofs.Looks.Stretches.{ticks-task, ticks-handler, ticks-nobody}
 use Rattle.segments.proofs.stretch.ticks.Goals as goal
-
-pub row_at-row-requires : goal.row_at-row-requires
-row_at-row-requires c =
-    (c.if-runner-lt-TASKS_MOST.true, c.requires.task c.if-runner-lt-TASKS_MOST.true)
 
 pub lapse-lapse-requires : goal.lapse-lapse-requires
 lapse-lapse-requires c =
@@ -27,10 +22,6 @@ returns-then-runner-lt-TASKS_MOST c =
     ticks-task x.far x.a (tasks_of x.tasks.now) (handlers_of x.handlers.now) x.given.now x.runner
     c.if-runner-lt-TASKS_MOST.true _ _ _ _ c.row_at-row.ensures
     c.lapse-lapse.ensures c.waits.ensures c.min.ensures
-
-pub row_at-row-requires-then-runner-lt-PLACES : goal.row_at-row-requires-then-runner-lt-PLACES
-row_at-row-requires-then-runner-lt-PLACES c =
-    (omega (arith, c.if-runner-lt-PLACES.true), c.requires.handler c.if-runner-lt-TASKS_MOST.false c.if-runner-lt-PLACES.true)
 
 pub lapse-requires : goal.lapse-requires
 lapse-requires c =
