@@ -60,8 +60,8 @@ fn of_name(rt: &HostRuntime, name: &[u8], quantum: u64) -> Figures {
 fn of_open(mut file: File, quantum: u64) -> Figures {
     let mut input = [0u8; READ_MOST];
     match console::read_whole(&mut file, &mut input) {
-        Some(n) => files::of_file(&input[..n], quantum),
-        None => files::refused(Refusal::FileMalformed.number()),
+        Ok(n) => files::of_file(&input[..n], quantum),
+        Err(_) => files::refused(Refusal::FileMalformed.number()),
     }
 }
 

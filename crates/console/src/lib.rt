@@ -1,7 +1,7 @@
 // What a program reads and says: input that is whole or not used, and the line on standard error where there is no answer.
 #![tactic(auto)]
 
-ghost use Rattle.std.specs.Prelude.{IfSome};
+ghost use Rattle.std.specs.Prelude.{IfErr, IfOk};
 ghost use Rattle.console.specs.Counts.{IsPrefixLen};
 
 use demand::refusal::Refusal;
@@ -12,36 +12,38 @@ use std::rt::Files;
 use std::str;
 use text::Text;
 
-// Reads until a read answers that the input has ended, or there is no room left: how many bytes. None where a read fails, whatever a
-// later read would answer: a connection that was reset says so once, and then that it has ended.
-pub fn read_whole<R: Read>(input: &mut R, buf: &mut [u8]) -> Option<usize>
-    ensures { IfSome result (λ n. IsPrefixLen n buf.new) }
+// A read failed behind so many bytes.
+#[derive(Clone, Copy, Debug, PartialEq, Eq)]
+pub struct Unfinished {
+    pub count: usize,
+}
+
+// Reads until a read answers that the input has ended, or there is no room left: how many bytes. Where a read fails they are a part, whatever
+// a later read would answer: a connection that was reset says so once, and then that it has ended.
+pub fn read_whole<R: Read>(input: &mut R, buf: &mut [u8]) -> Result<usize, Unfinished>
+    ensures whole { IfOk result (λ n. IsPrefixLen n buf.new) }
+    ensures part { IfErr result (λ part. IsPrefixLen part.count buf.new) }
 {
     let mut done = 0;
     // Each read says how far this comes, so no range can.
     while done < buf.len() {
-        let more = input.read(&mut buf[done..]).ok()?;
-        if more == 0 {
-            break;
+        match input.read(&mut buf[done..]) {
+            Ok(0) => break,
+            Ok(more) => done += more,
+            Err(_) => return Err(Unfinished { count: done }),
         }
-        done += more;
     }
-    Some(done)
+    Ok(done)
 }
 
-// Reads standard input whole into the room lent, and hands it on; where it cannot be read to its end, a line says so in the program's
-// name.
-pub fn with_input<F: FnOnce(&[u8])>(rt: &HostRuntime, program: &[u8], room: &mut [u8], then: F)
+// Reads standard input whole into the room lent, and hands it on; the line that is given says where it cannot be read to its end.
+pub fn with_input<F: FnOnce(&[u8])>(rt: &HostRuntime, unread: &[u8], room: &mut [u8], then: F)
     requires { F.IsAlwaysCallable then }
 {
     match read_whole(&mut rt.stdin(), room) {
-        Some(n) => then(&room[..n]),
-        None => {
-            say(&rt.stderr(), program);
-            say(
-                &rt.stderr(),
-                b": standard input could not be read to its end\n",
-            );
+        Ok(n) => then(&room[..n]),
+        Err(_) => {
+            say(&rt.stderr(), unread);
         }
     }
 }

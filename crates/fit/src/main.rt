@@ -10,7 +10,12 @@ const READ_MOST: usize = FILE_MOST + 1;
 
 fn main(rt: HostRuntime) {
     let mut room = [0u8; READ_MOST];
-    console::with_input(&rt, b"fit", &mut room, |file| answer(&rt, file));
+    console::with_input(
+        &rt,
+        b"fit: standard input could not be read to its end\n",
+        &mut room,
+        |file| answer(&rt, file),
+    );
 }
 
 // Prints the sheet of a whole file.

@@ -20,7 +20,12 @@ const SPAN_MOST: usize = 16;
 
 fn main(rt: HostRuntime) {
     let mut room = [0u8; TABLE_MOST];
-    console::with_input(&rt, b"judge", &mut room, |table| with_schedule(&rt, table));
+    console::with_input(
+        &rt,
+        b"judge: standard input could not be read to its end\n",
+        &mut room,
+        |table| with_schedule(&rt, table),
+    );
 }
 
 // Reads the schedule file that the first argument names.
@@ -42,8 +47,8 @@ fn with_schedule(rt: &HostRuntime, table: &[u8]) {
 fn from_file(rt: &HostRuntime, table: &[u8], mut file: File) {
     let mut schedule = [0u8; SCHEDULE_MOST];
     match console::read_whole(&mut file, &mut schedule) {
-        Some(n) => answer(rt, table, &schedule[..n]),
-        None => {
+        Ok(n) => answer(rt, table, &schedule[..n]),
+        Err(_) => {
             console::say(
                 &rt.stderr(),
                 b"judge: the schedule file could not be read to its end\n",

@@ -15,7 +15,7 @@ use Rattle.std.specs.Prelude.{Option, Some, None, Result, Ok, Err}
 use Rattle.demand.specs.declared.refusal.Refusal.{Refusal}
 use Rattle.demand.specs.declared.refusal.Refusal.TheVariants.{FileMalformed, DeadlineOutOfRange}
 use Rattle.layout.specs.File.{Entry, FileSays, SaysNothing}
-use Rattle.layout.specs.Refusals.{refusal_in, Misplaces, TableIn}
+use Rattle.layout.specs.Refusals.{Misplaced, refusal_in, Misplaces, TableIn}
 use Rattle.layout.specs.Inside.Building.{outcome}
 use Rattle.layout.specs.Table.{list_of, misplaced, table_of, ReadSays, OneReading}
 use Rattle.layout.specs.declared.reader.Table.{Table}
@@ -101,13 +101,33 @@ own-none : (k : ℕ) → 0 ≡ k → 13 ≡ pick (eqb k 0) 13 k
 own-none zero e = refl
 own-none (suc k) e = absurd (omega arith)
 
-module _ (bs : List ℕ) (t : Table) (read : ReadSays bs (Ok t)) (m : t.misplaced ≡ true) (ts hs : List ℕ)
-    (tasks : ts ≡ t.tasks) (handlers : hs ≡ t.handlers) where
+module _ (t : Table) (m : t.misplaced ≡ true) (ts hs : List ℕ) (tasks : ts ≡ t.tasks) (handlers : hs ≡ t.handlers) where
   lent : table_refusal ts hs ≡ table_refusal t.tasks t.handlers
   lent = ap (λ (s : List ℕ). table_refusal s hs) tasks ∙ ap (λ (s : List ℕ). table_refusal t.tasks s) handlers
 
-  pub misplaced-own : (e : Refusal) → number_of e ≡ table_refusal ts hs → TableIn bs (Err e)
-  misplaced-own e n = table-in-misplaced bs t e read m (own-first _ (number_of e) (number-pos e) (n ∙ lent))
+  pub misplaced-own : (e : Refusal) → number_of e ≡ table_refusal ts hs → Misplaced (Ok t) (Some e)
+  unfolding Misplaced
+  misplaced-own e n = (m, own-first _ (number_of e) (number-pos e) (n ∙ lent))
 
-  pub misplaced-13 : 0 ≡ table_refusal ts hs → TableIn bs (Err DeadlineOutOfRange)
-  misplaced-13 n = table-in-misplaced bs t DeadlineOutOfRange read m (own-none _ (n ∙ lent))
+  pub misplaced-13 : 0 ≡ table_refusal ts hs → Misplaced (Ok t) (Some DeadlineOutOfRange)
+  unfolding Misplaced
+  misplaced-13 n = (m, own-none _ (n ∙ lent))
+
+pub misplaced-not : (t : Table) → t.misplaced ≡ false → Misplaced (Ok t) None
+unfolding Misplaced
+misplaced-not t m = m
+
+pub misplaced-none : (e : Refusal) → Misplaced (Err e) None
+unfolding Misplaced
+misplaced-none e = tt
+
+-- What is read is refused where a handler has a deadline, and stands where none has.
+pub table-in-told : (bs : List ℕ) (r : Result Table Refusal) (e : Refusal) → ReadSays bs r → Misplaced r (Some e) → TableIn bs (Err e)
+unfolding Misplaced
+table-in-told bs (Ok t) e read m = table-in-misplaced bs t e read m.0 m.1
+table-in-told bs (Err f) e read m = absurd m
+
+pub table-in-stands : (bs : List ℕ) (r : Result Table Refusal) → ReadSays bs r → Misplaced r None → TableIn bs r
+unfolding Misplaced
+table-in-stands bs (Ok t) read m = table-in-placed bs t read m
+table-in-stands bs (Err e) read m = table-in-broken bs e read

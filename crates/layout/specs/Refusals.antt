@@ -1,9 +1,10 @@
 -- The refusal of a table as a file says it (01, "Numbered refusals"; 02, M-101). A file that breaks the layout is 12, before all.
 --   refusal_in misplaced t h   == 1, 2, 3 or 13, the first that applies in this order, where a handler with a deadline is 13 too
+--   Misplaced r o          o is the refusal of the table of r, where a handler of it has a deadline
 --   Said bs es             the file bs says the rows es, and no handler of them has a deadline
 --   Misplaces bs e         it says rows where one has, and e is the refusal of that
 --   TableIn bs r           r is the answer to the file bs: the table of the rows that it says, or its refusal
-use Rattle.std.specs.Prelude.{Bool, true, false, ◌&&◌, List, ◌⊎◌, ◌≡◌, ℕ, eqb, Result, Ok, Err}
+use Rattle.std.specs.Prelude.{Bool, true, false, ◌&&◌, List, ◌⊎◌, ◌≡◌, ℕ, eqb, Result, Ok, Err, Option, Some, None}
 use Rattle.demand.specs.Numbered.{number_of}
 use Rattle.demand.specs.Refusals.{table_refusal}
 use Rattle.demand.specs.Tests.{pick}
@@ -31,3 +32,9 @@ pub record Misplaces (bs : List ℕ) (e : Refusal) : Type 0 where
 unfoldable pub TableIn : List ℕ → Result Table Refusal → Type 0
 TableIn bs (Ok t) = (es : List Entry) × Said bs es × (t ≡ table_of es)
 TableIn bs (Err e) = Misplaces bs e ⊎ (SaysNothing bs × (e ≡ FileMalformed))
+
+unfoldable pub Misplaced : Result Table Refusal → Option Refusal → Type 0
+Misplaced (Ok t) (Some e) = (t.misplaced ≡ true) × (number_of e ≡ refusal_in true t.tasks t.handlers)
+Misplaced (Ok t) None = t.misplaced ≡ false
+Misplaced (Err e) (Some f) = ⊥
+Misplaced (Err e) None = Unit {0}

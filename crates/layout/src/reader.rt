@@ -1,9 +1,10 @@
 // The file reader: bytes in, a table out, or the word that the file breaks the layout.
-ghost use Rattle.std.specs.Prelude.{◌≡◌, ◌<◌};
+ghost use Rattle.std.specs.Prelude.{◌≡◌, ◌<◌, Ok, Err};
+ghost use Rattle.demand.specs.Tests.{pick};
 ghost use Rattle.layout.specs.File.{entry};
 ghost use Rattle.layout.specs.Inside.Building.{Room, pushed, fed, table_at_end};
 ghost use Rattle.layout.specs.Inside.Steps.{columns_of};
-ghost use Rattle.layout.specs.Refusals.{TableIn};
+ghost use Rattle.layout.specs.Refusals.{TableIn, Misplaced};
 ghost use Rattle.layout.specs.Table.{deadline_of, is_number, bare_table, ReadSays};
 
 use crate::steps::{Last, State};
@@ -24,7 +25,7 @@ const ROWS_MOST: usize = 408;
 const FLAT_MOST: usize = 3 * ROWS_MOST;
 
 // What a file says, and whether a handler has a deadline in it.
-#[derive(Drop)]
+#[derive(Clone, Copy)]
 pub struct Table {
     pub misplaced: bool,
     pub tasks: Flat<FLAT_MOST>,
@@ -74,9 +75,9 @@ fn is_number(last: Last) -> bool
 }
 
 // One row more.
-fn push(mut t: Table, kind: Kind, cost: u32, period: u32, last: Last) -> Table
-    requires { Room t }
-    ensures { result ≡ pushed t (entry kind cost period last) }
+fn push(t: &mut Table, kind: Kind, cost: u32, period: u32, last: Last)
+    requires { Room t.old }
+    ensures { t.new ≡ pushed t.old (entry kind cost period last) }
 {
     match kind {
         Kind::Task => {
@@ -90,38 +91,33 @@ fn push(mut t: Table, kind: Kind, cost: u32, period: u32, last: Last) -> Table
             t.handlers.push(period);
         }
     }
-    t
 }
 
 // The table after the byte b: it ends a row where a CR and the LF do.
-fn feed(t: Table, st: State, b: u8) -> Table
-    requires { Room t }
-    ensures { result ≡ fed t st b }
+fn feed(t: &mut Table, st: State, b: u8)
+    requires { Room t.old }
+    ensures { t.new ≡ fed t.old st b }
 {
     if b == b'\n' {
         match st {
             State::RowCr(kind, cost, period, last) => push(t, kind, cost, period, last),
-            _ => t,
+            _ => {}
         }
-    } else {
-        t
     }
 }
 
-// The table at the end of the file: a last line that lacks its CRLF is read as if it had it.
-fn close(columns: Columns, t: Table, st: State) -> Result<Table, Refusal>
-    requires { Room t }
-    ensures { result ≡ table_at_end columns t st }
+// Does the file end in order here? A last line that lacks its CRLF is read as if it had it.
+fn close(columns: Columns, t: &mut Table, st: State) -> bool
+    requires { Room t.old }
+    ensures { pick result (Ok t.new) (Err Refusal.FileMalformed) ≡ table_at_end columns t.old st }
 {
     let cr = steps::step(columns, st, b'\r');
     let lf = steps::step(columns, cr, b'\n');
     if steps::is_start(lf) {
-        Ok(feed(t, cr, b'\n'))
-    } else if steps::is_start(st) {
-        Ok(t)
-    } else {
-        Err(Refusal::FileMalformed)
+        feed(t, cr, b'\n');
+        return true;
     }
+    steps::is_start(st)
 }
 
 // The columns of a file: behind `kind,cost,period` a header of four goes on with a comma.
@@ -147,20 +143,38 @@ pub fn read(bytes: &[u8]) -> Result<Table, Refusal>
     let mut t = bare();
     let mut st = State::Head(0);
     for b in bytes {
-        t = feed(t, st, *b);
+        feed(&mut t, st, *b);
         st = steps::step(columns, st, *b);
     }
-    close(columns, t, st)
+    if !close(columns, &mut t, st) {
+        return Err(Refusal::FileMalformed);
+    }
+    Ok(t)
+}
+
+// Why a table is refused where a handler has a deadline: its own refusal, or 13.
+fn misplaced(read: &Result<Table, Refusal>) -> Option<Refusal>
+    ensures { Misplaced read.now result }
+{
+    match read {
+        Ok(table) if table.misplaced => {
+            match refusal::of_table(table.tasks(), table.handlers()) {
+                Err(own) => Some(own),
+                Ok(()) => Some(Refusal::DeadlineOutOfRange),
+            }
+        }
+        _ => None,
+    }
 }
 
 // The table of a file, where no handler in it has a deadline; one that has is refused by 13, unless the table is refused before.
 pub fn table_in(bytes: &[u8]) -> Result<Table, Refusal>
     ensures { TableIn bytes.now result }
 {
-    let table = read(bytes)?;
-    if table.misplaced {
-        refusal::of_table(table.tasks(), table.handlers())?;
-        return Err(Refusal::DeadlineOutOfRange);
+    // A table moved out of what is read would stand on the stack a second time.
+    let read = read(bytes);
+    if let Some(refusal) = misplaced(&read) {
+        return Err(refusal);
     }
-    Ok(table)
+    read
 }

@@ -25,21 +25,28 @@ fn main(rt: HostRuntime) {
     let k = console::argument(&rt, 1, &mut said);
     let span = schedule_sheet::spans::span_said(&said[..k]);
     let mut room = [0u8; TABLE_MOST];
-    console::with_input(&rt, b"segments", &mut room, |file| answer(&rt, file, span));
+    console::with_input(
+        &rt,
+        b"segments: standard input could not be read to its end\n",
+        &mut room,
+        |file| answer(&rt, file, span),
+    );
 }
 
 // What is refused is refused as judging a file without segments is.
 fn answer(rt: &HostRuntime, file: &[u8], span: u64) {
     let output = schedule_sheet::judged(file, b"row,from,to", span);
-    match (output.refusal, reader::table_in(file)) {
-        (None, Ok(table)) => of_table(rt, &table, span),
-        (refusal, _) => console::answer(
-            rt,
-            output.text.as_bytes(),
-            b"segments: the lines could not be written whole\n",
-            refusal,
-        ),
+    if output.refusal.is_none() {
+        if let Ok(table) = &reader::table_in(file) {
+            return of_table(rt, table, span);
+        }
     }
+    console::answer(
+        rt,
+        output.text.as_bytes(),
+        b"segments: the lines could not be written whole\n",
+        output.refusal,
+    );
 }
 
 // The segments of a table.

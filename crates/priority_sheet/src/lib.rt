@@ -40,12 +40,16 @@ pub fn blank() -> [u8; PAGE_MOST]
 fn answer(input: &[u8]) -> Result<Responses, Refusal>
     ensures { FileSheet input.now result }
 {
-    let table = reader::table_in(input)?;
-    let least = priority::responses(table.tasks(), table.handlers())?;
-    Ok(Responses {
-        least,
-        count: table::count(Kind::Task, table.tasks()),
-    })
+    match &reader::table_in(input) {
+        Ok(table) => {
+            let least = priority::responses(table.tasks(), table.handlers())?;
+            Ok(Responses {
+                least,
+                count: table::count(Kind::Task, table.tasks()),
+            })
+        }
+        Err(refusal) => Err(*refusal),
+    }
 }
 
 // From the bytes of a file to its lines, at the start of the page.

@@ -79,34 +79,30 @@ fn feed(numbers: &mut [u64; NUMBERS], n: usize, st: State, b: u8) -> usize
     }
 }
 
-// The schedule of n segments, where they are not too many.
-fn finished(numbers: [u64; NUMBERS], n: usize) -> Result<Schedule, Refusal>
-    ensures { Finishes n numbers result }
+// The count of the numbers of n segments, where they are not too many.
+fn finished(n: usize) -> Option<usize>
+    ensures { Finishes n result }
 {
     if SEGMENTS_MOST < n {
-        return Err(Refusal::FileMalformed);
+        return None;
     }
-    Ok(Schedule {
-        len: 4 * n,
-        numbers,
-    })
+    Some(4 * n)
 }
 
-// The schedule at the end of the file: a last line that lacks its CRLF is read as if it had it.
-fn close(numbers: [u64; NUMBERS], n: usize, st: State) -> Result<Schedule, Refusal>
-    ensures { Closes n numbers st result }
+// The count of the numbers at the end of the file, if it ends in order: a last line that lacks its CRLF is read as if it had it.
+fn close(numbers: &mut [u64; NUMBERS], n: usize, st: State) -> Option<usize>
+    ensures { Closes n numbers.old st result numbers.new }
 {
     let cr = steps::step(st, b'\r');
     let lf = steps::step(cr, b'\n');
     if steps::is_start(lf) {
-        let mut all = numbers;
-        let m = feed(&mut all, n, cr, b'\n');
-        return finished(all, m);
+        let m = feed(numbers, n, cr, b'\n');
+        return finished(m);
     }
     if steps::is_start(st) {
-        return finished(numbers, n);
+        return finished(n);
     }
-    Err(Refusal::FileMalformed)
+    None
 }
 
 // Reads a whole file: the segments of the rows that it says, or the refusal where it breaks the layout.
@@ -120,5 +116,8 @@ pub fn read(bytes: &[u8]) -> Result<Schedule, Refusal>
         n = feed(&mut numbers, n, st, *b);
         st = steps::step(st, *b);
     }
-    close(numbers, n, st)
+    match close(&mut numbers, n, st) {
+        Some(len) => Ok(Schedule { len, numbers }),
+        None => Err(Refusal::FileMalformed),
+    }
 }

@@ -11,7 +11,7 @@ use demand::refusal::Refusal;
 use text::Text;
 
 // What is written: the two lines, and the refusal that they tell of.
-#[derive(Drop)]
+#[derive(Clone, Copy)]
 pub struct Output {
     pub text: Text,
     pub refusal: Option<Refusal>,
@@ -26,8 +26,8 @@ fn of_schedule(
 ) -> Result<Option<u64>, Refusal>
     ensures { ScheduleFigures tasks.now handlers.now schedule.now span (figures result) }
 {
-    match schedule_file::reader::read(schedule) {
-        Ok(read) => segments::judge(tasks, handlers, read.numbers(), span),
+    match &schedule_file::reader::read(schedule) {
+        Ok(schedule) => segments::judge(tasks, handlers, schedule.numbers(), span),
         Err(_) => segments::judge(tasks, handlers, &[0], span),
     }
 }
@@ -36,8 +36,10 @@ fn of_schedule(
 fn answer(table: &[u8], schedule: &[u8], span: u64) -> Result<Option<u64>, Refusal>
     ensures { FileFigures table.now schedule.now span (figures result) }
 {
-    let read = layout::reader::table_in(table)?;
-    of_schedule(read.tasks(), read.handlers(), schedule, span)
+    match &layout::reader::table_in(table) {
+        Ok(table) => of_schedule(table.tasks(), table.handlers(), schedule, span),
+        Err(refusal) => Err(*refusal),
+    }
 }
 
 // From the bytes of a table file, those of a schedule file and a span to the printed lines.

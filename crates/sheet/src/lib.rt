@@ -12,7 +12,7 @@ use text::Text;
 use verdict::Answer;
 
 // What is written: the two lines, and the refusal that they tell of.
-#[derive(Drop)]
+#[derive(Clone, Copy)]
 pub struct Output {
     pub text: Text,
     pub refusal: Option<Refusal>,
@@ -33,6 +33,8 @@ pub fn sheet(input: &[u8]) -> Output
 fn answer(input: &[u8]) -> Result<Answer, Refusal>
     ensures { FileFigures input.now (figures result) }
 {
-    let table = reader::table_in(input)?;
-    verdict::verdict(table.tasks(), table.handlers())
+    match &reader::table_in(input) {
+        Ok(table) => verdict::verdict(table.tasks(), table.handlers()),
+        Err(refusal) => Err(*refusal),
+    }
 }

@@ -38,8 +38,10 @@ impl Output {
 fn answer(input: &[u8], row: usize) -> Result<Cut, Refusal>
     ensures { FileAnswers input.now row result }
 {
-    let table = reader::table_in(input)?;
-    trim::trim(table.tasks(), table.handlers(), row)
+    match &reader::table_in(input) {
+        Ok(table) => trim::trim(table.tasks(), table.handlers(), row),
+        Err(refusal) => Err(*refusal),
+    }
 }
 
 // What is written of an answer.

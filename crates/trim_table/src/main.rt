@@ -17,7 +17,12 @@ fn main(rt: HostRuntime) {
     let k = console::argument(&rt, 1, &mut name);
     let row = trim_file::names::row_named(&name[..k]);
     let mut room = [0u8; READ_MOST];
-    console::with_input(&rt, b"trim", &mut room, |file| answer(&rt, file, row));
+    console::with_input(
+        &rt,
+        b"trim: standard input could not be read to its end\n",
+        &mut room,
+        |file| answer(&rt, file, row),
+    );
 }
 
 // Prints the lines and the new table of a whole file.

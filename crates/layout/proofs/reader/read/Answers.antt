@@ -8,8 +8,8 @@ returns-then-bytes-gt-FILE_MOST c =
     let bytes = c.args.bytes.now in
     read-says bytes _ (over-long bytes c.if-bytes-gt-FILE_MOST.true)
 
-pub feed-t-requires : goal.feed-t-requires
-feed-t-requires c =
+pub feed-requires : goal.feed-requires
+feed-requires c =
     let bytes = c.args.bytes.now in
     let turn = c.loop-b in
     loop-room _ bytes turn.invariant.0 turn.b-index _ turn.invariant.2
@@ -20,7 +20,7 @@ loop-b-preserved c =
     let turn = c.loop-b in
     let inside = c.loop-b-test.true in
     let state = c.step-st.ensures ∙ loop-state _ bytes turn.invariant.0 turn.b-index _ inside turn.invariant.1 in
-    let table = c.feed-t.ensures ∙ loop-table _ bytes turn.invariant.0 turn.b-index _ _ inside turn.invariant.1 turn.invariant.2 in
+    let table = c.feed.ensures ∙ loop-table _ bytes turn.invariant.0 turn.b-index _ _ inside turn.invariant.1 turn.invariant.2 in
     (turn.invariant.0, state, table, turn.invariant.3)
 
 pub close-requires : goal.close-requires
@@ -33,4 +33,12 @@ pub returns : goal.returns
 returns c =
     let bytes = c.args.bytes.now in
     let turn = c.loop-b in
-    read-says bytes _ (c.close.ensures ∙ loop-ends _ bytes turn.invariant.0 turn.b-index _ _ turn.invariant.3 c.loop-b-test.false turn.invariant.1 turn.invariant.2)
+    let ends = rw c.if-not-close.false at c.close.ensures in
+    read-says bytes _ (ends ∙ loop-ends _ bytes turn.invariant.0 turn.b-index _ _ turn.invariant.3 c.loop-b-test.false turn.invariant.1 turn.invariant.2)
+
+pub returns-then-not-close : goal.returns-then-not-close
+returns-then-not-close c =
+    let bytes = c.args.bytes.now in
+    let turn = c.loop-b in
+    let ends = rw c.if-not-close.true at c.close.ensures in
+    read-says bytes _ (ends ∙ loop-ends _ bytes turn.invariant.0 turn.b-index _ _ turn.invariant.3 c.loop-b-test.false turn.invariant.1 turn.invariant.2)

@@ -4,4 +4,4 @@ use Rattle.schedule_file.proofs.reader.finished.Goals as goal
 pub returns : goal.returns
 returns c =
     let x = c.args in
-    λ es built. finished-few x.n x.numbers es built c.if-n-gt-SEGMENTS_MOST.false
+    λ ns es built. finished-few x.n ns es built c.if-n-gt-SEGMENTS_MOST.false
