@@ -1,15 +1,13 @@
 -- The figures of a table file (02, M-113), from its bytes.
---   refused_of n          == those of a refusal: its number, and none in both other ways
 --   AnswerIn m t h q a   a is the answer to the table t, h in a file: where m says that a handler has a deadline 13, unless a refusal that
 --                        comes first applies, else what the call on a table promises
 --   FileAnswers bs q a   a is the answer for the table that the file bs says
 --   FileCharged bs q g   g are the figures of the file bs with a quantum of q ticks: 19 before all, 12 where the file breaks the layout
 --   OneCharge            a file has such figures and no other
 use Rattle.std.specs.Prelude.{Bool, true, false, List, ◌⊎◌, ◌≡◌, ℕ, Result, Err}
-use Rattle.charges.specs.Figures.{figures}
+use Rattle.charges.specs.Figures.{refused_of, figures}
 use Rattle.charges.specs.Promise.{quantum_outside, ChargeSays}
 use Rattle.charges.specs.declared.Charged.{Charged}
-use Rattle.charges.specs.declared.figures.Word.TheVariants as word
 use Rattle.demand.specs.Numbered.{refusal_at}
 use Rattle.demand.specs.declared.refusal.Refusal.{Refusal}
 use Rattle.demand.specs.declared.refusal.Refusal.TheVariants.{FileMalformed, QuantumOutOfRange}
@@ -18,17 +16,6 @@ use Rattle.demand.specs.declared.table.Kind.TheVariants.{Task, Handler}
 use Rattle.layout.specs.File.{Entry, FileSays, SaysNothing}
 use Rattle.layout.specs.Refusals.{refusal_in}
 use Rattle.layout.specs.Table.{list_of, misplaced}
-
-abbrev pub refused_of : ℕ → Figures
-refused_of n = record {
-  exact = word.Refused;
-  code = n;
-  load = 0;
-  quantum = word.None;
-  quantum_load = 0;
-  task = word.None;
-  task_load = 0;
-}
 
 unfoldable pub AnswerIn : Bool → List ℕ → List ℕ → ℕ → Result Charged Refusal → Type 0
 AnswerIn true t h q a = a ≡ Err (refusal_at (refusal_in true t h))

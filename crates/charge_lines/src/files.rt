@@ -1,8 +1,9 @@
 // The figures of a table file.
 ghost use Rattle.std.specs.Prelude.{◌≡◌};
-ghost use Rattle.charge_lines.specs.Files.{refused_of, FileAnswers, FileCharged};
+ghost use Rattle.charge_lines.specs.Files.{FileAnswers, FileCharged};
+ghost use Rattle.charges.specs.Figures.{refused_of};
 
-use charges::figures::{Figures, Word};
+use charges::figures::Figures;
 use charges::{Charged, QUANTUM_MOST, figures};
 use demand::refusal::Refusal;
 use layout::reader;
@@ -11,15 +12,7 @@ use layout::reader;
 pub fn refused(number: u32) -> Figures
     ensures { result ≡ refused_of number }
 {
-    Figures {
-        exact: Word::Refused,
-        code: u64::from(number),
-        load: 0,
-        quantum: Word::None,
-        quantum_load: 0,
-        task: Word::None,
-        task_load: 0,
-    }
+    figures::refused(number)
 }
 
 // The answer to the table that a file says. A quantum out of range is refused before the file is read.
@@ -29,8 +22,10 @@ fn answer(input: &[u8], quantum: u64) -> Result<Charged, Refusal>
     if (quantum == 0) | (QUANTUM_MOST < quantum) {
         return Err(Refusal::QuantumOutOfRange);
     }
-    let table = reader::table_in(input)?;
-    charges::of_table(table.tasks(), table.handlers(), quantum)
+    match &reader::table_in(input) {
+        Ok(table) => charges::of_table(table.tasks(), table.handlers(), quantum),
+        Err(refusal) => Err(*refusal),
+    }
 }
 
 // From the bytes of a table file to its figures.

@@ -2,6 +2,7 @@
 --   exact_word e          == the word of the verdict's answer e
 --   charge_word a, charge_load a   == the word and the load of the charge a, where there is one; of none the load is 0
 --   charged_of c          == the figures of the exact verdict and the charges beside it
+--   refused_of n          == those of a refusal: its number, and none in both other ways
 --   figures r            == those of an answer; what does not apply is none or 0
 --   numbers_of g          == the figures g as numbers, each word by its own; answer_numbers r are those of an answer
 use Rattle.std.specs.Prelude.{List, [], ◌∷◌, ℕ, Result, Ok, Err, Option, Some, None}
@@ -43,17 +44,20 @@ charged_of c = record {
   task_load = charge_load c.task;
 }
 
-abbrev pub figures : Result Charged Refusal → Figures
-figures (Ok c) = charged_of c
-figures (Err e) = record {
+abbrev pub refused_of : ℕ → Figures
+refused_of n = record {
   exact = word.Refused;
-  code = number_of e;
+  code = n;
   load = 0;
   quantum = word.None;
   quantum_load = 0;
   task = word.None;
   task_load = 0;
 }
+
+abbrev pub figures : Result Charged Refusal → Figures
+figures (Ok c) = charged_of c
+figures (Err e) = refused_of (number_of e)
 
 abbrev pub word_number : Word → ℕ
 word_number word.Fits = 0

@@ -1,6 +1,6 @@
 // An answer in words, a number and loads, as a line tells it.
 ghost use Rattle.std.specs.Prelude.{◌≡◌};
-ghost use Rattle.charges.specs.Figures.{exact_word, charge_word, charge_load, charged_of, figures, word_number, numbers_of};
+ghost use Rattle.charges.specs.Figures.{exact_word, charge_word, charge_load, charged_of, refused_of, figures, word_number, numbers_of};
 
 use crate::{Charge, Charged};
 use demand::refusal::Refusal;
@@ -83,15 +83,22 @@ pub fn of_answer(answer: Result<Charged, Refusal>) -> Figures
 {
     match answer {
         Ok(told) => charged(told),
-        Err(refusal) => Figures {
-            exact: Word::Refused,
-            code: u64::from(refusal.number()),
-            load: 0,
-            quantum: Word::None,
-            quantum_load: 0,
-            task: Word::None,
-            task_load: 0,
-        },
+        Err(refusal) => refused(refusal.number()),
+    }
+}
+
+// Those of a refusal. By its number: they are promised for each number, those of no refusal too.
+pub fn refused(number: u32) -> Figures
+    ensures { result ≡ refused_of number }
+{
+    Figures {
+        exact: Word::Refused,
+        code: u64::from(number),
+        load: 0,
+        quantum: Word::None,
+        quantum_load: 0,
+        task: Word::None,
+        task_load: 0,
     }
 }
 

@@ -12,7 +12,7 @@ use Rattle.demand.specs.declared.Spare.{Spare}
 use Rattle.demand.specs.declared.refusal.Refusal.{Refusal}
 use Rattle.verdict.specs.Promise.{answer_numbers}
 use Rattle.verdict.proofs.Promise.{verdict-unique}
-use Rattle.cowriedash.specs.Numbers.{demand_numbers, handler_numbers, DemandFigured, HandlerFigured, VerdictTold, DemandTold, HandlerTold, MarginTold}
+use Rattle.cowriedash.specs.Numbers.{demand_numbers, handler_numbers, DemandFigured, HandlerFigured, DemandRefused, HandlerRefused, VerdictTold, DemandTold, HandlerTold, MarginTold}
 
 pub verdict-told-unique : (t h a b : List ℕ) → VerdictTold t h a → VerdictTold t h b → a ≡ b
 verdict-told-unique t h a b p q = p.numbers ∙ ap answer_numbers (verdict-unique t h p.answer q.answer p.says q.says) ∙ sym q.numbers
@@ -40,7 +40,13 @@ unfolding figures
 demand-figured (Ok n) = (refl, refl)
 demand-figured (Err e) = (refl, refl)
 
+pub demand-refused : DemandRefused
+demand-refused k = (refl, refl)
+
 pub handler-figured : HandlerFigured
 unfolding handler_figures
 handler-figured (Ok share) = (refl, refl, refl)
 handler-figured (Err e) = (refl, refl, refl)
+
+pub handler-refused : HandlerRefused
+handler-refused k = (refl, refl, refl)

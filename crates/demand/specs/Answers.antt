@@ -1,5 +1,6 @@
 -- What the public calls answer (01, "Numbered refusals" and "Forms for each place").
 --   figures, handler_figures, margin_figures   == the paper's number and values for each case of an answer: what does not apply is 0
+--   no_figures k             == those of refusal k: its number, all others 0
 --   DemandSays k n r           the answer r to a demand of n ticks where the refusal is k, 0 for none
 --   HandlerSays k hs l r       the answer r to the handler demand at l, with what is left over (02, M-106)
 --   MarginSays k ts hs l r     the answer r to the margin at l where the refusal is k, 0 for none
@@ -17,17 +18,20 @@ pub record Figures : Type 0 where
   pub ticks : ℤ
   pub left : ℕ
 
+abbrev pub no_figures : ℕ → Figures
+no_figures k = record { code = k; ticks = pos 0; left = 0 }
+
 unfoldable pub figures : Result ℕ Refusal → Figures
 figures (Ok n) = record { code = 0; ticks = pos n; left = 0 }
-figures (Err e) = record { code = number_of e; ticks = pos 0; left = 0 }
+figures (Err e) = no_figures (number_of e)
 
 unfoldable pub handler_figures : Result Share Refusal → Figures
 handler_figures (Ok share) = record { code = 0; ticks = pos share.ticks; left = share.left }
-handler_figures (Err e) = record { code = number_of e; ticks = pos 0; left = 0 }
+handler_figures (Err e) = no_figures (number_of e)
 
 unfoldable pub margin_figures : Result Spare Refusal → Figures
 margin_figures (Ok spare) = record { code = 0; ticks = spare.ticks; left = spare.left }
-margin_figures (Err e) = record { code = number_of e; ticks = pos 0; left = 0 }
+margin_figures (Err e) = no_figures (number_of e)
 
 -- the figures of a call whose refusal is k and whose values are z and m: the values only where nothing is refused
 unfoldable pub figures_by : ℕ → ℤ → ℕ → Figures

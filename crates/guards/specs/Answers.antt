@@ -1,6 +1,7 @@
 -- What `rows` answers (02, M-107; 01, "Numbered refusals" and "Forms for each place").
 --   rows_told a b p    == the answer that a guard's rows have the costs a and b and the period p
 --   figures r         == the number and values of an answer: what does not apply is 0
+--   no_figures k      == those of refusal k: its number, all others 0
 --   figures_by k g     == the figures of a call on the guard g whose refusal is k: values only where nothing is refused
 --   RowsSay g r       r is the answer to the guard g: refusals 14 and 3 in this order, else the costs of its two rows and their period
 --   RowsUnique        two answers that the promise allows are equal
@@ -21,9 +22,12 @@ pub record Figures : Type 0 where
   pub timer : ℕ
   pub period : ℕ
 
+abbrev pub no_figures : ℕ → Figures
+no_figures k = record { code = k; interrupt = 0; timer = 0; period = 0 }
+
 unfoldable pub figures : Result Pair Refusal → Figures
 figures (Ok pair) = record { code = 0; interrupt = pair.interrupt; timer = pair.timer; period = pair.period }
-figures (Err e) = record { code = number_of e; interrupt = 0; timer = 0; period = 0 }
+figures (Err e) = no_figures (number_of e)
 
 unfoldable pub figures_by : ℕ → Guard → Figures
 figures_by k g = record {

@@ -126,4 +126,4 @@ ran-laid ran.Idle (Some j) = refl
 
 pub figures-laid : FiguresLaid
 unfolding figures
-figures-laid = record { ticked = λ t. ran-laid t.ran t.late; refused = λ e. refl }
+figures-laid = record { ticked = λ t. ran-laid t.ran t.late; refused = λ k. refl; refusal = λ e. refl }

@@ -19,7 +19,7 @@ use Rattle.demand.specs.Numbered.{number_of, refused as told}
 use Rattle.demand.specs.Tests.{pick}
 use Rattle.demand.specs.declared.refusal.Refusal.{Refusal}
 use Rattle.machine.specs.Live.{Live}
-use Rattle.scheduler.specs.Promise.{Who, nobody, handler, task, Figures, figures, row_ran, FreshSays, StepSays}
+use Rattle.scheduler.specs.Promise.{Who, nobody, handler, task, Figures, figures, no_figures, row_ran, FreshSays, StepSays}
 use Rattle.scheduler.specs.Runs.{run_of}
 use Rattle.scheduler.specs.Steps.{step_refusal}
 use Rattle.scheduler.specs.declared.Fresh.{Fresh}
@@ -90,7 +90,8 @@ numbers_of g = g.code ∷ who_number g.ran ∷ g.row ∷ row_number g.late g.lat
 
 pub record FiguresLaid : Type 0 where
   pub ticked : (t : Ticked) → answer_numbers 0 t.ran t.late ≡ numbers_of (figures (Ok t))
-  pub refused : (e : Refusal) → refused_numbers (number_of e) ≡ numbers_of (figures (Err e))
+  pub refused : (k : ℕ) → refused_numbers k ≡ numbers_of (no_figures k)
+  pub refusal : (e : Refusal) → refused_numbers (number_of e) ≡ numbers_of (figures (Err e))
 
 -- ---- what is left in the arrays
 

@@ -7,8 +7,8 @@ mod scan;
 mod segment;
 mod stretch;
 
-ghost use Rattle.std.specs.Prelude.{◌≡◌, Ok};
-ghost use Rattle.segments.specs.Promise.{judge_refusal, answer_numbers, JudgeSays};
+ghost use Rattle.std.specs.Prelude.{◌∷◌, ◌≡◌, Ok};
+ghost use Rattle.segments.specs.Promise.{judge_refusal, refusal_of, word_number, numbers_of, answer_numbers, JudgeSays};
 
 use demand::refusal::Refusal;
 use scan::PLACES;
@@ -24,8 +24,15 @@ pub fn numbers(answer: Result<Option<u64>, Refusal>) -> [u64; NUMBERS]
     match answer {
         Ok(None) => [0, 0, 0],
         Ok(Some(tick)) => [1, 0, tick],
-        Err(refusal) => [2, u64::from(refusal.number()), 0],
+        Err(refusal) => refused_numbers(refusal.number()),
     }
+}
+
+// Those of a refusal. By its number: they are promised for each number, those of no refusal too.
+pub fn refused_numbers(number: u32) -> [u64; NUMBERS]
+    ensures { result ≡ word_number (refusal_of number).word ∷ numbers_of (refusal_of number) }
+{
+    [2, u64::from(number), 0]
 }
 
 // The first tick at which the schedule of these segments breaks a rule up to the span, with all rows arriving at 0 and each period at

@@ -6,7 +6,7 @@ mod search;
 
 ghost use Rattle.std.specs.Prelude.{◌≡◌};
 ghost use Rattle.trim.specs.Inside.{Judged};
-ghost use Rattle.trim.specs.Promise.{answer_numbers, TrimSays};
+ghost use Rattle.trim.specs.Promise.{refusal_of, numbers_of, answer_numbers, TrimSays};
 
 use demand::refusal::Refusal;
 use demand::table;
@@ -35,8 +35,15 @@ pub fn numbers(answer: Result<Cut, Refusal>) -> [u64; NUMBERS]
             },
         ) => [0, u64::from(old), u64::from(new)],
         Ok(Cut { old, new: None }) => [0, u64::from(old), 0],
-        Err(refusal) => [u64::from(refusal.number()), 0, 0],
+        Err(refusal) => refused_numbers(refusal.number()),
     }
+}
+
+// Those of a refusal. By its number: they are promised for each number, those of no refusal too.
+pub fn refused_numbers(number: u32) -> [u64; NUMBERS]
+    ensures { result ≡ numbers_of (refusal_of number) }
+{
+    [u64::from(number), 0, 0]
 }
 
 // The greatest cost of the task at row, from 1 up to its present one, at which the table fits, all else kept. Nothing lent is changed. At

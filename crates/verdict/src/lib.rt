@@ -6,9 +6,9 @@ mod load;
 pub mod multiples;
 mod search;
 
-ghost use Rattle.std.specs.Prelude.{◌≡◌, Ok};
+ghost use Rattle.std.specs.Prelude.{◌∷◌, ◌≡◌, Ok};
 ghost use Rattle.verdict.specs.Multiples.{common};
-ghost use Rattle.verdict.specs.Promise.{verdict_refusal, answer_numbers, VerdictSays};
+ghost use Rattle.verdict.specs.Promise.{verdict_refusal, refusal_of, word_number, numbers_of, answer_numbers, VerdictSays};
 ghost use Rattle.demand.specs.Rows.{tasks_of, handlers_of};
 
 use demand::refusal;
@@ -53,8 +53,15 @@ pub fn numbers(answer: Result<Answer, Refusal>) -> [u64; NUMBERS]
             miss.left,
             miss.tested,
         ],
-        Err(refusal) => [2, u64::from(refusal.number()), 0, 0, 0, 0, 0, 0],
+        Err(refusal) => refused_numbers(refusal.number()),
     }
+}
+
+// Those of a refusal. By its number: they are promised for each number, those of no refusal too.
+pub fn refused_numbers(number: u32) -> [u64; NUMBERS]
+    ensures { result ≡ word_number (refusal_of number).word ∷ numbers_of (refusal_of number) }
+{
+    [2, u64::from(number), 0, 0, 0, 0, 0, 0]
 }
 
 // The verdict: Fits exactly when every interval length from 1 up passes, with no upper end.
