@@ -112,7 +112,8 @@ pub fn of_question(tasks: &[u32], handlers: &[u32], l: u64) -> Result<(), Refusa
 {
     of_table(tasks, handlers)?;
     if TICKS_MOST < l {
-        return Err(Refusal::IntervalTooLong);
+        Err(Refusal::IntervalTooLong)
+    } else {
+        Ok(())
     }
-    Ok(())
 }

@@ -7,8 +7,7 @@ use Rattle.charges.proofs.ways.in_quanta.Goals as goal
 pub overflow_mul-result : goal.overflow_mul-result
 overflow_mul-result c =
     let useful = c.requires.useful in
-    rw (c.div_ceil.ensures ∙ div_ceil-ceil _ _ useful.some)
-    (omega (arith, quanta-most c.args.cost c.args.ticks c.args.useful useful.some useful.short c.requires.cost))
+    rw (c.div_ceil.ensures ∙ div_ceil-ceil _ _ useful.some) (grind (arith, quanta-most, useful.some, useful.short, c.requires.cost))
 
 pub returns : goal.returns
-returns c = rw (c.div_ceil.ensures ∙ div_ceil-ceil _ _ c.requires.useful.some)
+returns c = grind (arith, c.div_ceil.ensures ∙ div_ceil-ceil _ _ c.requires.useful.some)

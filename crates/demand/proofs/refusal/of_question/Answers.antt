@@ -12,5 +12,5 @@ returns-in_err-of_table c =
 pub returns-then-l-gt-TICKS_MOST : goal.returns-then-l-gt-TICKS_MOST
 returns-then-l-gt-TICKS_MOST c = sym (asked-5 _ _ _ (sym c.in_ok-of_table.ensures) c.if-l-gt-TICKS_MOST.true)
 
-pub returns : goal.returns
-returns c = sym (asked-zero _ _ _ (sym c.in_ok-of_table.ensures) c.if-l-gt-TICKS_MOST.false)
+pub returns-else-l-gt-TICKS_MOST : goal.returns-else-l-gt-TICKS_MOST
+returns-else-l-gt-TICKS_MOST c = sym (asked-zero _ _ _ (sym c.in_ok-of_table.ensures) c.if-l-gt-TICKS_MOST.false)

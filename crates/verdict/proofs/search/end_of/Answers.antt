@@ -1,7 +1,6 @@
-use mathlib.Core.Path.{◌∙◌}
 use native.Mathlib.Omega.{arith}
 use borrow.Author.Tests.{lt-ltb, le-ltb}
-use native.Mathlib.Nat.{zero-div, min_comm}
+use native.Mathlib.Nat.{zero-div}
 use Prim.Native.Nat.{◌-◌}
 use Rattle.verdict.specs.Inside.Search.{end_by}
 use Rattle.verdict.proofs.search.end_of.Goals as goal
@@ -16,4 +15,4 @@ returns-then-bound-eq0 c = simp (lt-ltb _ _ c.if-h-w.false, c.if-bound-eq0.true)
 
 pub returns : goal.returns
 unfolding end_by
-returns c = simp (lt-ltb _ _ c.if-h-w.false) (c.min.ensures ∙ min_comm _ _)
+returns c = simp (lt-ltb _ _ c.if-h-w.false) (grind (arith, c.min.ensures))
