@@ -10,7 +10,6 @@ use lib.ListN.{length, get_or}
 use Rattle.demand.specs.Refusals.{uneven}
 use Rattle.demand.specs.Rows.{width}
 use Rattle.demand.specs.declared.table.Kind.{Kind}
-use Rattle.demand.specs.declared.table.Kind.TheVariants.{Task, Handler}
 use Rattle.demand.proofs.Refusals.{neither}
 use Rattle.columns.specs.Held.{most_numbers, unheld}
 use Rattle.columns.specs.Order.{tabled, by_column, count, row_order}
@@ -22,7 +21,7 @@ pub record Shape (kind : Kind) (s : List ℕ) (w n : ℕ) : Type 0 where
   pub columns : w ≡ width kind
   pub rows : n ≡ count kind s
   pub numbers : length s ≡ w * n
-  pub most : length s ≤ most_numbers Task
+  pub most : length s ≤ most_numbers kind
 
 pub shape : (kind : Kind) (s : List ℕ) (w : ℕ) → unheld kind s ≡ false → w ≡ width kind → Shape kind s w (length s / w)
 shape kind s w e a =
@@ -32,12 +31,8 @@ shape kind s w e a =
       columns = a;
       rows = rows;
       numbers = whole kind s fits.1 ∙ sym (ap (λ (x : ℕ). x * count kind s) a) ∙ sym (ap (λ (x : ℕ). w * x) rows);
-      most = most-of kind (length s) (ltb-false (most_numbers kind) (length s) fits.0);
+      most = ltb-false (most_numbers kind) (length s) fits.0;
     }
-  where
-    most-of : (kind : Kind) (n : ℕ) → n ≤ most_numbers kind → n ≤ most_numbers Task
-    most-of Task n h = h
-    most-of Handler n h = omega arith
 
 -- All numbers put, the list is in row order.
 pub listed-end : (kind : Kind) (s : List ℕ) (w n : ℕ) → unheld kind s ≡ false → Shape kind s w n

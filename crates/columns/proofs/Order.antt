@@ -35,6 +35,10 @@ module _ (w n i : ℕ) (inside : i < w * n) where
   pub place-within : by_column w n i < w * n
   place-within = digits_lt (mod-lt i wide) row_within
 
+-- By column, number j of row i stands among the j-th numbers of all rows.
+pub placed : (w n i j : ℕ) → j < w → by_column w n (i * w + j) ≡ j * n + i
+placed w n i j column = rw (digits_mod i column, digits_div i column)
+
 -- ---- a reordered list, place by place
 
 -- A list in whole rows has so many numbers.
@@ -76,10 +80,7 @@ module _ (kind : Kind) (s : List ℕ) (e : uneven kind s ≡ false) (i j : ℕ) 
   pub order-column : get_or (row_order kind s) (i * width kind + j) 0 ≡ get_or s (j * count kind s + i) 0
   order-column =
       order-at by_column kind s e (i * width kind + j) (omega (arith, whole kind s e, mul_comm (width kind) (count kind s), digits_lt row column))
-      ∙ ap (λ (k : ℕ). get_or s k 0) place
-    where
-      place : by_column (width kind) (count kind s) (i * width kind + j) ≡ j * count kind s + i
-      place = rw (digits_mod i column, digits_div i column)
+      ∙ ap (λ (k : ℕ). get_or s k 0) (placed (width kind) (count kind s) i j column)
 
   -- And the other way.
   pub order_row : get_or (column_order kind s) (j * count kind s + i) 0 ≡ get_or s (i * width kind + j) 0

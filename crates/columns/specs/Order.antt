@@ -5,6 +5,7 @@
 --   reordered place kind s  == the list s with its numbers fetched from those places; as it is where its count does not divide into rows
 --   row_order kind s         == the list s, held by column, in row order
 --   column_order kind s      == the list s, in row order, held by column
+--   first_rows w n s i      == the first i rows of the list s, held by column in n rows of w numbers, in row order
 --   column_row kind s i      == row i of the list s held by column: cost i, period i and, of a task, deadline i
 --   column_rows kind s       == all of them
 --   RowsAlike               the rows by column of a list are the rows of its row order
@@ -44,6 +45,9 @@ row_order kind s = reordered by_column kind s
 
 abbrev pub column_order : Kind → List ℕ → List ℕ
 column_order kind s = reordered by_row kind s
+
+abbrev pub first_rows : ℕ → ℕ → List ℕ → ℕ → List ℕ
+first_rows w n s i = tabled (λ k. get_or s (by_column w n k) 0) (i * w)
 
 -- ---- its rows
 

@@ -1,9 +1,9 @@
 // Tables held by column: all costs, then all periods, then all deadlines. Put into row order once, here and nowhere else.
 #![tactic(auto)]
 
-ghost use Rattle.std.specs.Prelude.{false, ◌≡◌, ◌*◌, ◌≤◌, ◌<◌};
+ghost use Rattle.std.specs.Prelude.{false, ◌≡◌, ◌+◌, ◌*◌, ◌≤◌, ◌<◌, length, take};
 ghost use Rattle.columns.specs.Held.{most_numbers, unheld, table_held};
-ghost use Rattle.columns.specs.Order.{by_column, row_order};
+ghost use Rattle.columns.specs.Order.{first_rows, row_order};
 
 use demand::flat::Flat;
 use demand::table;
@@ -13,7 +13,7 @@ use demand::table::{HANDLER_NUMBERS, Kind, TASK_NUMBERS};
 #[derive(Clone, Copy)]
 pub struct Table {
     pub tasks: Flat<TASK_NUMBERS>,
-    pub handlers: Flat<TASK_NUMBERS>,
+    pub handlers: Flat<HANDLER_NUMBERS>,
 }
 
 // The most numbers of a list that a table may have.
@@ -33,26 +33,29 @@ fn unheld(kind: Kind, numbers: &[u32]) -> bool
     (most(kind) < numbers.len()) | !numbers.len().is_multiple_of(table::width(kind))
 }
 
-// Where number i of the row order stands by column, in n rows of w numbers.
-fn place(w: usize, n: usize, i: usize) -> usize
-    requires { (i < w * n) × (w * n ≤ most_numbers Kind.Task) }
-    ensures { (result ≡ by_column w n i) × (result < w * n) }
+// The numbers of a row, which by column stand n places apart, put beside one another behind the rows before it.
+fn put_row(out: &mut [u32], numbers: &[u32], w: usize, n: usize, row: usize)
+    requires { (length numbers.now ≡ w * n) × (w * n ≤ length out.old)
+        × (row < n) × (take (row * w) out.old ≡ first_rows w n numbers.now row) }
+    ensures { (length out.new ≡ length out.old) × (take ((row + 1) * w) out.new ≡ first_rows w n numbers.now (row + 1)) }
 {
-    (i % w) * n + i / w
+    for column in 0..w {
+        out[row * w + column] = numbers[column * n + row];
+    }
 }
 
 // A list that is held by column, in row order.
-fn in_rows(kind: Kind, numbers: &[u32]) -> Flat<TASK_NUMBERS>
-    requires { unheld kind numbers.now ≡ false }
+fn in_rows<const N: usize>(kind: Kind, numbers: &[u32]) -> Flat<N>
+    requires { (unheld kind numbers.now ≡ false) × (most_numbers kind ≤ N) }
     ensures { result ≡ row_order kind numbers.now }
 {
     let w = table::width(kind);
     let n = numbers.len() / w;
-    let mut out = Flat::new();
-    for i in 0..numbers.len() {
-        out.push(numbers[place(w, n, i)]);
+    let mut out = [0; N];
+    for row in 0..n {
+        put_row(&mut out, numbers, w, n, row);
     }
-    out
+    Flat::of(&out[..numbers.len()])
 }
 
 // The table of two lists held by column, in row order: at most 192 and 32 numbers are copied. None where its counts alone refuse it.

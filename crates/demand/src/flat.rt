@@ -1,5 +1,5 @@
 // Lists of numbers in fixed memory: no heap is asked for room.
-ghost use Rattle.std.specs.Prelude.{◌∷◌, [], ◌++◌, ◌≡◌, length, ltb};
+ghost use Rattle.std.specs.Prelude.{◌∷◌, [], ◌++◌, ◌≡◌, length, ltb, take};
 ghost use Rattle.demand.specs.Tests.{pick};
 
 use std::marker::Model;
@@ -39,6 +39,19 @@ impl<const N: usize> Flat<N> {
         Flat {
             numbers: [0; N],
             len: 0,
+        }
+    }
+
+    // The numbers of a slice, or the first N.
+    pub fn of(numbers: &[u32]) -> Self
+        ensures { result ≡ take N numbers.now }
+    {
+        let len = numbers.len().min(N);
+        let mut places = [0; N];
+        places[..len].copy_from_slice(&numbers[..len]);
+        Flat {
+            numbers: places,
+            len,
         }
     }
 

@@ -1,4 +1,5 @@
 use mathlib.Core.Path.{sym}
+use native.Mathlib.Omega.{arith}
 use Rattle.demand.proofs.Refusals.{neither}
 use Rattle.demand.specs.declared.table.Kind.TheVariants.{Task, Handler}
 use Rattle.columns.specs.Held.{unheld}
@@ -11,13 +12,13 @@ returns-then-unheld c =
 
 pub in_rows-requires : goal.in_rows-requires
 in_rows-requires c =
-    (neither (unheld Task c.args.tasks.now) (unheld Handler c.args.handlers.now)
-    (rw (c.unheld.ensures, c.unheld-2.ensures) at c.if-unheld.false)).0
+    let none = rw (c.unheld.ensures, c.unheld-2.ensures) at c.if-unheld.false in
+    (omega arith, ((neither (unheld Task c.args.tasks.now) (unheld Handler c.args.handlers.now) none).0, omega arith))
 
 pub in_rows-requires-2 : goal.in_rows-requires-2
 in_rows-requires-2 c =
-    (neither (unheld Task c.args.tasks.now) (unheld Handler c.args.handlers.now)
-    (rw (c.unheld.ensures, c.unheld-2.ensures) at c.if-unheld.false)).1
+    let none = rw (c.unheld.ensures, c.unheld-2.ensures) at c.if-unheld.false in
+    (omega arith, ((neither (unheld Task c.args.tasks.now) (unheld Handler c.args.handlers.now) none).1, omega arith))
 
 pub returns : goal.returns
 returns c =

@@ -1,45 +1,37 @@
-use mathlib.Core.Path.{◌≡◌, ap, ◌∙◌}
+use mathlib.Core.Path.{◌≡◌, refl, ap, sym, ◌∙◌}
+use native.Mathlib.Nat.{mul_comm}
 use native.Mathlib.Omega.{arith}
-use Prim.Native.Nat.{ℕ}
-use lib.ListN.{length, get_or}
-use Rattle.demand.proofs.Inside.Slices.{width-least}
-use Rattle.demand.proofs.Padded.{room-push}
-use Rattle.columns.proofs.Filled.{shape, listed-turn, listed-end}
-use Rattle.columns.proofs.Tabled.{tabled-length}
+use Prim.Native.Nat.{ℕ, ◌*◌, ◌/◌}
+use lib.ListN.{length, take}
+use Rattle.std.proofs.Common.{length-take-le}
+use Rattle.std.proofs.lemmas.List.{length-replicate, take_all}
+use Rattle.columns.proofs.Filled.{shape, listed-end}
 use Rattle.columns.specs.Order.{tabled_from, tabled}
 use Rattle.columns.proofs.in_rows.Goals as goal
 
-pub nonzero_div-n : goal.nonzero_div-n
-nonzero_div-n c = omega (arith, c.width-w.ensures, width-least c.args.kind)
-
-pub loop-i-init : goal.loop-i-init
+pub loop-row-init : goal.loop-row-init
 unfolding tabled_from
-loop-i-init c = c.new-out.ensures
+loop-row-init g c =
+    let none : 0 * c.width-w.result ≡ 0 = omega arith in
+    (length-replicate g.row.N 0, rw none refl)
 
-pub place-requires : goal.place-requires
-place-requires c =
-    let is = shape c.args.kind c.args.numbers.now c.width-w.result c.requires c.width-w.ensures in
-    (omega (arith, is.numbers, is.most), omega (arith, is.numbers, is.most))
+pub put_row-requires : goal.put_row-requires
+put_row-requires g c =
+    let is = shape c.args.kind c.args.numbers.now c.width-w.result c.requires.0 c.width-w.ensures in
+    (is.numbers, omega (arith, is.numbers, is.most, c.requires.1, c.loop-row.invariant.0), c.loop-row-test.true, c.loop-row.invariant.1)
 
-pub offset_bounds-numbers-place : goal.offset_bounds-numbers-place
-offset_bounds-numbers-place c =
-    let is = shape c.args.kind c.args.numbers.now c.width-w.result c.requires c.width-w.ensures in
-    omega (arith, c.place.ensures.1, is.numbers, is.most)
-
-pub bounds-numbers-place : goal.bounds-numbers-place
-bounds-numbers-place c =
-    let is = shape c.args.kind c.args.numbers.now c.width-w.result c.requires c.width-w.ensures in
-    omega (arith, c.place.ensures.1, is.numbers)
-
-pub loop-i-preserved : goal.loop-i-preserved
-loop-i-preserved c =
-    let is = shape c.args.kind c.args.numbers.now c.width-w.result c.requires c.width-w.ensures in
-    let long = ap length c.loop-i.invariant ∙ tabled-length _ 0 c.loop-i.i in
-    let put = c.push.ensures ∙ room-push _ c.loop-i.out _ (omega (arith, is.most, long)) in
-    rw put (listed-turn _ c.loop-i.i _ c.loop-i.out (ap (λ (k : ℕ). get_or c.args.numbers.now k 0) c.place.ensures.0) c.loop-i.invariant)
+pub loop-row-preserved : goal.loop-row-preserved
+loop-row-preserved g c = (c.put_row.ensures.0 ∙ c.loop-row.invariant.0, c.put_row.ensures.1)
 
 pub returns : goal.returns
-returns c =
-    let is = shape c.args.kind c.args.numbers.now c.width-w.result c.requires c.width-w.ensures in
-    let end : c.loop-i.i ≡ length c.args.numbers.now = omega arith in
-    c.loop-i.invariant ∙ ap (tabled _) end ∙ listed-end c.args.kind c.args.numbers.now c.width-w.result _ c.requires is
+returns g c =
+    let is = shape c.args.kind c.args.numbers.now c.width-w.result c.requires.0 c.width-w.ensures in
+    let all : c.loop-row.row ≡ length c.args.numbers.now / c.width-w.result = omega arith in
+    let end = ap (λ (r : ℕ). r * c.width-w.result) all ∙ mul_comm _ c.width-w.result ∙ sym is.numbers in
+    let long = length-take-le (length c.args.numbers.now) c.loop-row.out (omega (arith, is.most, c.requires.1, c.loop-row.invariant.0)) in
+    c.of.ensures
+    ∙ take_all g.row.N (take (length c.args.numbers.now) c.loop-row.out) (omega (arith, is.most, c.requires.1, long))
+    ∙ ap (λ (k : ℕ). take k c.loop-row.out) (sym end)
+    ∙ c.loop-row.invariant.1
+    ∙ ap (tabled _) end
+    ∙ listed-end c.args.kind c.args.numbers.now c.width-w.result _ c.requires.0 is

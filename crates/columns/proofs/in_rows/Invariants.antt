@@ -1,8 +1,9 @@
 use mathlib.Core.Path.{◌≡◌}
-use lib.ListN.{get_or}
-use Rattle.columns.specs.Order.{tabled, by_column}
+use Prim.Native.Nat.{◌*◌}
+use lib.ListN.{length, take}
+use Rattle.columns.specs.Order.{first_rows}
 use Rattle.columns.proofs.in_rows.Given as goal
 
--- So many numbers stand in row order.
-abbrev pub invariant-loop-i : goal.invariant-loop-i
-invariant-loop-i l = l.out ≡ tabled (λ k. get_or l.numbers (by_column l.w l.n k) 0) l.i
+-- So many rows stand in row order.
+abbrev pub invariant-loop-row : goal.invariant-loop-row
+invariant-loop-row g l = (length l.out ≡ g.row.N) × (take (l.row * l.w) l.out ≡ first_rows l.w l.n l.numbers l.row)
