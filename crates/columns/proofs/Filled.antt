@@ -1,4 +1,4 @@
--- A list put into row order, number by number: what the loop keeps.
+-- A list put into row order, row by row and number by number: what the loops keep.
 use mathlib.Core.Bool.{false}
 use mathlib.Core.List.{List, [], ◌∷◌, ◌++◌}
 use mathlib.Core.Path.{◌≡◌, sym, ap, ◌∙◌}

@@ -29,7 +29,7 @@ use Rattle.scheduler.proofs.Steps.Answers.{passed, step-refused, step-known, Out
 use Rattle.scheduler.proofs.Steps.Answers.Outcome.{stays, goes}
 use Rattle.scheduler.proofs.Steps.Clauses.{clauses, clauses-fit}
 use Rattle.scheduler.proofs.Steps.Tables.{fresh-ready}
-use Rattle.harness.specs.Numbers.{answer_numbers, numbers_of, FiguresLaid, late_number, run_numbers, refused_numbers, refused_layout, run_in, left_with, left_by, LateRows, FreshLaidUnique, StepLaidUnique, RefusedKeeps}
+use Rattle.harness.specs.Numbers.{answer_numbers, numbers_of, FiguresLaid, late_number, run_numbers, refused_numbers, refused_layout, run_in, left_with, left_by, LateRows, RefusedAs, FreshLaidUnique, StepLaidUnique, RefusedKeeps}
 
 -- ---- a late row that is told is one of at most 64
 
@@ -76,6 +76,20 @@ late-rows key r ws s says t is = go (outcome key r ws)
         let own : late_number (ticked_by key r ws).run.late ≤ tasks_most = row-most _ _ _ r.task_count tasks_most few in
         let told = same-tick (sym (ap (λ (x : Stepped). x.answer) (says.answer ∙ e)) ∙ is) in
         (subst (λ (x : Stepped). late_number x.run.late ≤ tasks_most) (sym (says.answer ∙ e)) own, subst (λ (x : Ticked). late_number x.late ≤ tasks_most) told own)
+
+-- A refused step stands beside the run that was given: what are that run's numbers are its own.
+pub refused-as : (key : Live → ℕ) (r : Run) (ws next due owed : List ℕ) (s : Stepped) → StepSays key r ws s
+    → next ≡ r.next → due ≡ r.due → owed ≡ r.owed → RefusedAs s next due owed
+unfolding ticked_by
+refused-as key r ws next due owed s says n d o e is =
+    let same = sym (go (outcome key r ws)) in
+    (n ∙ ap (λ (x : Run). x.next) same, d ∙ ap (λ (x : Run). x.due) same, o ∙ ap (λ (x : Run). x.owed) same)
+  where
+    go : Outcome key r ws → s.run ≡ r
+    go (stays k stayed) = ap (λ (x : Stepped). x.run) (says.answer ∙ stayed)
+    go (goes none gone) =
+        let same : Ok _ ≡ Err e = sym (ap (λ (x : Stepped). x.answer) (says.answer ∙ gone)) ∙ is in
+        absurd (let z : ◌≡◌ {A = ℕ} 0 1 = cc in omega arith)
 
 -- ---- what a call leaves is determined
 

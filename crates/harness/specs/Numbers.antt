@@ -9,6 +9,7 @@
 --   run_in t h next due owed fs   == the run that lent arrays tell
 --   left_by fs s            == the figures after a step: those of a refused one keep the run's five as they were
 --   LateRows s             no late row that the step s names is above the last that a run has room for
+--   RefusedAs s next due owed   where the step s is refused, these are its run's numbers: so they can stay as they are
 --   FreshLaid, StepLaid    what a call leaves, of an answer that the promise of `fresh` or of a step by this key allows
 --   FreshLaidUnique, StepLaidUnique   and so nothing else
 --   RefusedKeeps           a refused step leaves the numbers of the run exactly as they were
@@ -105,6 +106,9 @@ left_by fs s = left_with fs s.run s.answer
 -- No late row that a tick names is above the last that a run has room for.
 abbrev pub LateRows : Stepped → Type 0
 LateRows s = (t : Ticked) → s.answer ≡ Ok t → (late_number s.run.late ≤ tasks_most) × (late_number t.late ≤ tasks_most)
+
+abbrev pub RefusedAs : Stepped → List ℕ → List ℕ → List ℕ → Type 0
+RefusedAs s next due owed = (e : Refusal) → s.answer ≡ Err e → (next ≡ s.run.next) × (due ≡ s.run.due) × (owed ≡ s.run.owed)
 
 pub record FreshLaid (tasks handlers : List ℕ) (t h next due owed fs : List ℕ) : Type 0 where
   pub fresh : Fresh

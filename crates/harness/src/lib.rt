@@ -6,7 +6,7 @@
 mod numbers;
 
 ghost use Rattle.std.specs.Prelude.{◌≡◌, ◌≤◌, ◌++◌, replicate};
-ghost use Rattle.harness.specs.Numbers.{run_in, run_numbers, refused_numbers, late_number, left_by, LateRows, FreshLaid, StepLaid};
+ghost use Rattle.harness.specs.Numbers.{run_in, run_numbers, refused_numbers, late_number, left_by, LateRows, RefusedAs, FreshLaid, StepLaid};
 ghost use Rattle.columns.specs.Order.{row_order};
 ghost use Rattle.demand.specs.Limits.{tasks_most};
 ghost use Rattle.demand.specs.Numbered.{refused};
@@ -44,7 +44,7 @@ fn lay_fresh(
     *figures = numbers::run_figures(&fresh.run, code, Ran::Idle, None);
 }
 
-// A step, laid into the lent arrays. Beside a refusal stands the run that was given, so a refused one leaves them as they were.
+// A step, laid into the lent arrays. A refused one leaves those of the run alone: they hold the run that stands beside it.
 fn lay(
     stepped: &Stepped,
     next: &mut [u64; PLACES],
@@ -52,15 +52,17 @@ fn lay(
     owed: &mut [u64; PLACES],
     figures: &mut [u64; FIGURES],
 )
-    requires { LateRows stepped.now }
+    requires { LateRows stepped.now × RefusedAs stepped.now next.old due.old owed.old }
     ensures { (next.new ≡ stepped.now.run.next) × (due.new ≡ stepped.now.run.due) × (owed.new ≡ stepped.now.run.owed)
         × (figures.new ≡ left_by figures.old stepped.now) }
 {
-    *next = stepped.run.next;
-    *due = stepped.run.due;
-    *owed = stepped.run.owed;
     match stepped.answer {
-        Ok(ticked) => *figures = numbers::run_figures(&stepped.run, 0, ticked.ran, ticked.late),
+        Ok(ticked) => {
+            *next = stepped.run.next;
+            *due = stepped.run.due;
+            *owed = stepped.run.owed;
+            *figures = numbers::run_figures(&stepped.run, 0, ticked.ran, ticked.late);
+        }
         Err(refusal) => *figures = numbers::refused_figures(figures, refusal.number()),
     }
 }

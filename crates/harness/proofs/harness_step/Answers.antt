@@ -1,8 +1,14 @@
-use Rattle.harness.proofs.Laid.{late-rows}
+use mathlib.Core.Path.{sym, ap}
+use Rattle.scheduler.specs.declared.Run.{Run}
+use Rattle.harness.proofs.Laid.{late-rows, refused-as}
 use Rattle.harness.proofs.harness_step.Goals as goal
 
 pub lay-requires : goal.lay-requires
-lay-requires c = late-rows _ _ _ _ c.step.ensures
+lay-requires c =
+    let run = sym c.run_in-run.ensures in (
+      late-rows _ _ _ _ c.step.ensures,
+      refused-as _ _ _ _ _ _ _ c.step.ensures (ap (λ (x : Run). x.next) run) (ap (λ (x : Run). x.due) run) (ap (λ (x : Run). x.owed) run),
+    )
 
 pub returns : goal.returns
 returns c = record {
