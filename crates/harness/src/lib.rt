@@ -6,7 +6,8 @@
 mod numbers;
 
 ghost use Rattle.std.specs.Prelude.{◌≡◌, ◌≤◌, ◌++◌, replicate};
-ghost use Rattle.harness.specs.Numbers.{run_in, run_numbers, refused_numbers, late_number, left_by, LateRows, RefusedAs, FreshLaid, StepLaid};
+ghost use Rattle.harness.specs.Numbers.{run_in, run_numbers, refused_numbers, late_number, left_by};
+ghost use Rattle.harness.specs.Numbers.{LateRows, RefusedAs, FreshLaid, StepLaid};
 ghost use Rattle.columns.specs.Order.{row_order};
 ghost use Rattle.demand.specs.Limits.{tasks_most};
 ghost use Rattle.demand.specs.Numbered.{refused};
