@@ -105,13 +105,13 @@ module _ (t : Table) (m : t.misplaced ≡ true) (ts hs : List ℕ) (tasks : ts �
   lent : table_refusal ts hs ≡ table_refusal t.tasks t.handlers
   lent = ap (λ (s : List ℕ). table_refusal s hs) tasks ∙ ap (λ (s : List ℕ). table_refusal t.tasks s) handlers
 
-  pub misplaced-own : (e : Refusal) → number_of e ≡ table_refusal ts hs → Misplaced (Ok t) (Some e)
+  pub own-told : (e : Refusal) → number_of e ≡ table_refusal ts hs → Misplaced (Ok t) (Some e)
   unfolding Misplaced
-  misplaced-own e n = (m, own-first _ (number_of e) (number-pos e) (n ∙ lent))
+  own-told e n = (m, own-first _ (number_of e) (number-pos e) (n ∙ lent))
 
-  pub misplaced-13 : 0 ≡ table_refusal ts hs → Misplaced (Ok t) (Some DeadlineOutOfRange)
+  pub deadline-told : 0 ≡ table_refusal ts hs → Misplaced (Ok t) (Some DeadlineOutOfRange)
   unfolding Misplaced
-  misplaced-13 n = (m, own-none _ (n ∙ lent))
+  deadline-told n = (m, own-none _ (n ∙ lent))
 
 pub misplaced-not : (t : Table) → t.misplaced ≡ false → Misplaced (Ok t) None
 unfolding Misplaced
@@ -131,3 +131,12 @@ pub table-in-stands : (bs : List ℕ) (r : Result Table Refusal) → ReadSays bs
 unfolding Misplaced
 table-in-stands bs (Ok t) read m = table-in-placed bs t read m
 table-in-stands bs (Err e) read m = table-in-broken bs e read
+
+-- So the file of such a table is refused by the table's own refusal, or by 13.
+module _ (bs : List ℕ) (t : Table) (read : ReadSays bs (Ok t)) (m : t.misplaced ≡ true) (ts hs : List ℕ)
+    (tasks : ts ≡ t.tasks) (handlers : hs ≡ t.handlers) where
+  pub misplaced-own : (e : Refusal) → number_of e ≡ table_refusal ts hs → TableIn bs (Err e)
+  misplaced-own e n = table-in-told bs (Ok t) e read (own-told t m ts hs tasks handlers e n)
+
+  pub misplaced-13 : 0 ≡ table_refusal ts hs → TableIn bs (Err DeadlineOutOfRange)
+  misplaced-13 n = table-in-told bs (Ok t) DeadlineOutOfRange read (deadline-told t m ts hs tasks handlers n)

@@ -11,6 +11,7 @@ use lib.Seq.{ext_get_or, get_or-take, get_or-append-add}
 use Rattle.demand.proofs.Divide.{le-or-lt}
 use Rattle.demand.proofs.Inside.Places.{each_at}
 use Rattle.demand.proofs.Refusals.{refusal-in-range}
+use Rattle.demand.specs.Limits.{tasks_most}
 use Rattle.demand.specs.Refusals.{table_refusal, FairRow}
 use Rattle.demand.specs.Rows.{Row, tasks_of, handlers_of, row_at, no_row}
 use Rattle.guarantees.proofs.Rhythm.{beats-append, beats-at, sync-legal}
@@ -20,6 +21,7 @@ use Rattle.machine.specs.Schedules.{beat}
 use Rattle.own_segments.specs.Inside.{Rests, QuietTo, Quiet}
 use Rattle.scheduler.proofs.Reached.FreshBounds.{zeros-at, zeros-length}
 use Rattle.scheduler.proofs.Steps.Scan.{length-filled, filled-below}
+use Rattle.scheduler.proofs.Steps.Tables.{whole}
 use Rattle.scheduler.specs.Runs.{row_places}
 use Rattle.scheduler.specs.Scans.{filled}
 use Rattle.scheduler.specs.Start.{zeros}
@@ -50,6 +52,13 @@ module _ (t h : List ℕ) where
         go (inl m) =
             rw (← row_back k m)
             (each_at FairRow (handlers_of h) (refusal-in-range t h e).handlers (k - length (tasks_of t)) (omega (arith, rows-length)))
+
+    -- Each row has a place.
+    pub task-placed : (k : ℕ) → k < length (tasks_of t) → (k < tasks_most) × (k < length (tasks_of t))
+    task-placed k l = (omega (arith, (whole t h e).in-range.tasks-most), l)
+
+    pub handler-placed : (k : ℕ) → k < length (handlers_of h) → (k < tasks_most) × (k < length (handlers_of h))
+    handler-placed k l = (omega (arith, (whole t h e).in-range.handlers-most), l)
 
   -- ---- arrivals
 

@@ -1,13 +1,13 @@
-use Rattle.layout.proofs.Table.{misplaced-own, misplaced-13, misplaced-not, misplaced-none}
+use Rattle.layout.proofs.Table.{own-told, deadline-told, misplaced-not, misplaced-none}
 use Rattle.layout.proofs.reader.misplaced.Goals as goal
 
 pub returns-in-Err : goal.returns-in-Err
 returns-in-Err c =
-    rw c.in-Ok.is (misplaced-own _ c.if-table.true _ _ c.tasks.ensures c.handlers.ensures _ (rw c.in-Err.is at c.of_table.ensures))
+    rw c.in-Ok.is (own-told _ c.if-table.true _ _ c.tasks.ensures c.handlers.ensures _ (rw c.in-Err.is at c.of_table.ensures))
 
 pub returns-in-Ok-of_table : goal.returns-in-Ok-of_table
 returns-in-Ok-of_table c =
-    rw c.in-Ok.is (misplaced-13 _ c.if-table.true _ _ c.tasks.ensures c.handlers.ensures (rw c.in-Ok-of_table.is at c.of_table.ensures))
+    rw c.in-Ok.is (deadline-told _ c.if-table.true _ _ c.tasks.ensures c.handlers.ensures (rw c.in-Ok-of_table.is at c.of_table.ensures))
 
 pub returns-in_default : goal.returns-in_default
 returns-in_default c = rw c.in-Ok.is (misplaced-not _ c.if-table.false)
